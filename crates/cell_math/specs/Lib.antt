@@ -1,0 +1,4 @@
+pub mod Cell
+pub mod Quotients
+pub mod Divisions
+pub mod Bytes

@@ -1,0 +1,17 @@
+pub mod Tree
+pub mod State
+pub mod Access
+pub mod ByteWords
+pub mod PicturedOutput
+pub mod Meaning
+pub mod Program
+pub mod Step
+pub mod Run
+pub mod Price
+pub mod RunLaws
+pub mod ItemTrees
+pub mod TreeLaws
+pub mod Name
+pub mod Parts
+pub mod Form
+pub mod TreeCode

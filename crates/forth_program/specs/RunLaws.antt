@@ -1,0 +1,31 @@
+-- What holds of all runs.
+use Rattle.std.specs.Prelude.{◌≡◌, ℕ, ◌+◌, List, ◌++◌, length}
+use Rattle.forth_program.specs.State.{Access, World, State, End, Ends}
+use Rattle.forth_program.specs.Program.{SourceProgram}
+use Rattle.forth_program.specs.Run.{and_then, steps, world_of}
+use Rattle.forth_program.specs.Price.{spent}
+
+-- a + b steps are a steps and then b more
+abbrev pub StepsCompose : Type 0
+StepsCompose = (p : SourceProgram) (a b : ℕ) (s : State) → steps p (a + b) s ≡ and_then (steps p a s) (steps p b)
+
+-- an end stays
+abbrev pub EndStays : Type 0
+EndStays = (p : SourceProgram) (a b : ℕ) (s : State) (end : End) (world : World) → steps p a s ≡ Ends end world → steps p (a + b) s ≡ Ends end world
+
+-- what was spent before a run adds to what the run spends
+abbrev pub SpentAdds : Type 0
+SpentAdds = (p : SourceProgram) (before total k : ℕ) (s : State) → spent p (before + total) k s ≡ before + spent p total k s
+
+-- a world that a run may come to from another: more is printed, input is taken from the front, accesses are added, and
+-- data space keeps its place and its size
+pub record IsLater (old new : World) : Type 0 where
+  pub prints : (more : List ℕ) × (new.printed ≡ old.printed ++ more)
+  pub takes : (taken : List ℕ) × (old.input ≡ taken ++ new.input)
+  pub makes : (more : List Access) × (new.made ≡ more ++ old.made)
+  pub same_start : new.data_start ≡ old.data_start
+  pub same_room : length new.space ≡ length old.space
+
+-- every run comes to a later world
+abbrev pub WorldsGrow : Type 0
+WorldsGrow = (p : SourceProgram) (k : ℕ) (s : State) → IsLater s.world (world_of (steps p k s))

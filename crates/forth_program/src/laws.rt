@@ -1,0 +1,31 @@
+// What holds of all trees of items, and of all runs.
+ghost use Rattle.forth_program.specs.TreeLaws.{IfTree, UntilTree, WhileTree, DoTree, TreesJoin};
+ghost use Rattle.forth_program.specs.RunLaws.{StepsCompose, EndStays, SpentAdds, WorldsGrow};
+
+/// The tree of a structure has the trees of its parts, and one list after another has the trees of both.
+pub fn trees_have_parts()
+    ensures if_tree { IfTree }
+    ensures until_tree { UntilTree }
+    ensures while_tree { WhileTree }
+    ensures do_tree { DoTree }
+    ensures joined { TreesJoin }
+{}
+
+/// A run of a + b word steps is one of a steps and then b more, and once it has ended it stays so.
+#[tactic(auto, using(crate::proofs::RunLaws::steps_more, crate::proofs::RunLaws::ended))]
+pub fn runs_compose()
+    ensures composed { StepsCompose }
+    ensures ended { EndStays }
+{}
+
+/// What was spent before a run adds to what the run spends.
+#[tactic(auto, using(crate::proofs::RunLaws::spent_from))]
+pub fn prices_add()
+    ensures { SpentAdds }
+{}
+
+/// Along a run prints are only added at the end, input is only taken from the front, accesses are only added, and data space
+/// keeps its place and its size.
+pub fn worlds_grow()
+    ensures { WorldsGrow }
+{}

@@ -1,0 +1,11 @@
+pub mod Computes
+pub mod Resolve
+pub mod Stepping
+pub mod Growing
+pub mod TwoCells
+pub mod Holding
+pub mod Counting
+pub mod Turning
+pub mod Wanting
+pub mod Running
+pub mod Bytes

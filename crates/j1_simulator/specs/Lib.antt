@@ -1,0 +1,9 @@
+pub mod Operations
+pub mod Effect
+pub mod Step
+pub mod RoundMachine
+pub mod OpenMachine
+pub mod Run
+pub mod MachineState
+pub mod Drive
+pub mod Laws

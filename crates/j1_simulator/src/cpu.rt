@@ -1,0 +1,115 @@
+// The round machine without its console.
+ghost use Rattle.std.specs.Prelude.{◌≡◌, ◌≤ℤ◌, pos, negsuc, length, OnErr};
+ghost use Rattle.j1_simulator.specs.Step.{step as step_of, effect_at, data_after, return_after};
+ghost use Rattle.j1_simulator.specs.RoundMachine.{round_storage, empty_ring};
+ghost use Rattle.j1_simulator.specs.MachineState.{seen_of, with_key};
+
+use crate::effects::{Effect, Output, Pause, ReturnWrite};
+use crate::operate::{new_top, next_pc_of};
+use crate::plans::plan;
+use crate::reach::reach;
+use crate::rings::Ring;
+use console_ports::Fence;
+use j1_table::decode;
+use std::marker::Model;
+
+/// Registers, stacks and memory.
+#[derive(Drop)]
+pub struct Cpu {
+    pc: u16,
+    t: u16,
+    data_stack: Ring,
+    return_stack: Ring,
+    memory: Vec<u16>,
+}
+
+impl Model for Cpu {
+    ghost use Rattle.std.specs.Prelude.{ℕ, ◌<◌, ◌≡◌, length};
+    ghost use Rattle.j1_simulator.specs.Step.{Core};
+    ghost use Rattle.j1_simulator.specs.RoundMachine.{RingCells};
+
+    ghost Value = { Core ℕ RingCells };
+
+    ghost view = { λ c. record { pc = c.pc; t = c.t; data_stack = c.data_stack; return_stack = c.return_stack; memory = c.memory.items } };
+
+    ghost invariant = { λ c. (c.pc < 0x2000) × (length c.memory.items ≡ 0x2000) };
+}
+
+// Moves the data stack, and writes the old T there.
+fn change_data(stack: &mut Ring, effect: Effect, t: u16)
+    requires low { negsuc 1 ≤ℤ effect.data_move }
+    requires high { effect.data_move ≤ℤ pos 1 }
+    ensures { stack.new ≡ data_after round_storage effect.t_to_n effect.data_move t stack.old }
+{
+    stack.move_by(effect.data_move);
+    if effect.t_to_n {
+        stack.put(t);
+    }
+}
+
+// Moves the return stack, and writes what goes there.
+fn change_return(stack: &mut Ring, effect: Effect, t: u16)
+    requires low { negsuc 1 ≤ℤ effect.return_move }
+    requires high { effect.return_move ≤ℤ pos 1 }
+    ensures { stack.new ≡ return_after round_storage effect.return_write effect.return_move t stack.old }
+{
+    stack.move_by(effect.return_move);
+    match effect.return_write {
+        ReturnWrite::Nothing => {}
+        ReturnWrite::OldTop => stack.put(t),
+        ReturnWrite::ReturnTo(address) => stack.put(address),
+    }
+}
+
+impl Cpu {
+    /// The machine at its start, over this memory.
+    pub fn new(memory: Vec<u16>) -> Cpu
+        requires { length memory.items ≡ 0x2000 }
+        ensures { result ≡ record { pc = 0; t = 0; data_stack = empty_ring; return_stack = empty_ring; memory = memory.items } }
+    {
+        Cpu {
+            pc: 0,
+            t: 0,
+            data_stack: Ring::new(),
+            return_stack: Ring::new(),
+            memory,
+        }
+    }
+
+    /// What the next instruction does.
+    pub fn next_effect(&self) -> Effect
+        ensures effect { result ≡ effect_at self.now }
+        ensures data_low { negsuc 1 ≤ℤ result.data_move }
+        ensures data_high { result.data_move ≤ℤ pos 1 }
+        ensures return_low { negsuc 1 ≤ℤ result.return_move }
+        ensures return_high { result.return_move ≤ℤ pos 1 }
+    {
+        plan(self.pc, decode(self.memory[usize::from(self.pc)]))
+    }
+
+    /// One instruction, where the next byte of the input is `key`.
+    pub fn step(&mut self, fence: Fence, key: Option<u8>) -> Result<Output, Pause>
+        ensures step { seen_of result self.new ≡ with_key key (step_of round_storage fence.data_start self.old) }
+        ensures err { OnErr result (self.new ≡ self.old) }
+    {
+        let effect = self.next_effect();
+        let n = self.data_stack.top();
+        let r = self.return_stack.top();
+        let depth = u16::from(self.return_stack.at()) * 256 + u16::from(self.data_stack.at());
+        let reached = reach(
+            &mut self.memory,
+            fence,
+            key,
+            effect.fetches,
+            effect.stores,
+            self.t,
+            n,
+        )?;
+        let t = self.t;
+        self.pc = next_pc_of(effect.next, self.pc, t, r);
+        self.t = new_top(effect.new_top, t, n, r, reached.0, depth);
+        change_data(&mut self.data_stack, effect, t);
+        change_return(&mut self.return_stack, effect, t);
+        Ok(reached.1)
+    }
+}

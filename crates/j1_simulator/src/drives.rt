@@ -1,0 +1,147 @@
+// Whole runs over a console and an output.
+ghost use Rattle.std.specs.Prelude.{ℕ, Bool, ◌&&◌, List, Option, ◌≡◌, ◌≤◌, ◌<◌, slice_get, length, [], ◌++◌, drop, option_map, OnOk, OnErr, IfSome, MatchResult, IfOk};
+ghost use Rattle.outside_io.specs.Causes.{Rose, HasCause};
+ghost use Rattle.j1_simulator.specs.Run.{Configuration, advance};
+ghost use Rattle.j1_simulator.specs.RoundMachine.{RingCells};
+ghost use Rattle.j1_simulator.specs.Step.{By};
+ghost use Rattle.j1_simulator.specs.MachineState.{WantsAByte};
+ghost use Rattle.j1_simulator.specs.Drive.{Holds, HoldsFront, IsAt, told, ended_by, counters_fit, driven, driven_fits, WhereTold, end_told, KeepsEnd};
+
+use crate::buffers::Buffer;
+use crate::ends::{DriveError, End, Event, Finish};
+use crate::machines::Machine;
+use outside_io::{Failed, Sink, Source};
+
+// Asks the console for one byte.
+fn ask<C: Source>(console: &mut C) -> Result<Option<u8>, DriveError>
+    ensures byte { IfSome (C.left console.old) (λ input. MatchResult result (λ byte. (byte ≡ slice_get input 0) × (C.left console.new ≡ Some (drop 1 input))) (λ _. C.left console.new ≡ Some input)) }
+    ensures err { OnErr result (result ≡ Err DriveError.Read) }
+    ensures cause { HasCause (C.faults console.old) (C.faults console.new) result }
+{
+    let mut buf = [0u8; 1];
+    match console.read(&mut buf) {
+        Ok(0) => Ok(None),
+        Ok(_) => Ok(Some(buf[0])),
+        Err(Failed) => Err(DriveError::Read),
+    }
+}
+
+// Notes what an event prints, and gives its end.
+fn note<O: Sink>(event: Event, buffer: &mut Buffer, out: &mut O) -> Result<Option<End>, DriveError>
+    requires room { length buffer.old < 512 }
+    requires answered { event ≡ Event.WantsByte → ⊥ }
+
+    ensures room { OnOk result (length buffer.new < 512) }
+    ensures end { IfOk result (λ end. end ≡ ended_by event) }
+    ensures err { OnErr result (result ≡ Err DriveError.Write) }
+    ensures cause { HasCause (O.faults out.old) (O.faults out.new) result }
+    ensures ok { (before : Option (List ℕ)) (printed : List ℕ) → Holds before (O.held out.old) (buffer.old ++ told event) printed →
+        OnOk result (Holds before (O.held out.new) buffer.new printed) }
+    ensures front { (before : Option (List ℕ)) (printed : List ℕ) → Holds before (O.held out.old) (buffer.old ++ told event) printed →
+        OnErr result (HoldsFront before (O.held out.new) printed) }
+{
+    match event {
+        Event::Went => Ok(None),
+        Event::Printed(byte) => {
+            buffer.push(byte);
+            if buffer.is_full() {
+                buffer.flush(out)?;
+            }
+            Ok(None)
+        }
+        Event::Ended(end) => Ok(Some(end)),
+        Event::WantsByte => unreachable!(),
+    }
+}
+
+// One instruction, with the question for its byte.
+fn turn<C: Source, O: Sink>(
+    machine: &mut Machine,
+    buffer: &mut Buffer,
+    console: &mut C,
+    out: &mut O,
+) -> Result<Option<End>, DriveError>
+    requires { length buffer.old < 512 }
+
+    ensures room { OnOk result (length buffer.new < 512) }
+    ensures read_cause { result ≡ Err DriveError.Read → Rose (C.faults console.old) (C.faults console.new) }
+    ensures write_cause { result ≡ Err DriveError.Write → Rose (O.faults out.old) (O.faults out.new) }
+    ensures console_faults { C.faults console.old ≤ C.faults console.new }
+    ensures out_faults { O.faults out.old ≤ O.faults out.new }
+
+    ensures ended { IfOk result (λ end. end ≡ machine.new.ended) }
+    ensures over { KeepsEnd machine.old machine.new }
+    ensures wants { result ≡ Err DriveError.Read → WantsAByte machine.new }
+
+    ensures run { (configuration : Configuration ℕ RingCells) (fits : Bool) (data_start : ℕ) (before : Option (List ℕ)) →
+        IsAt configuration fits machine.old data_start (C.left console.old) before (O.held out.old) buffer.old →
+        OnOk result (IsAt (advance data_start configuration) (fits && counters_fit (advance data_start configuration)) machine.new data_start (C.left console.new) before (O.held out.new) buffer.new) }
+
+    ensures read { (configuration : Configuration ℕ RingCells) (fits : Bool) (data_start : ℕ) (before : Option (List ℕ)) →
+        IsAt configuration fits machine.old data_start (C.left console.old) before (O.held out.old) buffer.old →
+        result ≡ Err DriveError.Read →
+        IsAt configuration fits machine.new data_start (C.left console.new) before (O.held out.new) [] }
+
+    ensures write { (configuration : Configuration ℕ RingCells) (fits : Bool) (data_start : ℕ) (before : Option (List ℕ)) →
+        IsAt configuration fits machine.old data_start (C.left console.old) before (O.held out.old) buffer.old →
+        result ≡ Err DriveError.Write →
+        HoldsFront before (O.held out.new) (advance data_start configuration).printed }
+{
+    match machine.step() {
+        Event::WantsByte => {
+            buffer.flush(out)?;
+            let byte = ask(console)?;
+            machine.give_byte(byte);
+            note(machine.step(), buffer, out)
+        }
+        event => note(event, buffer, out),
+    }
+}
+
+/// Makes at most `n` instructions, with the input from `console` and what is printed going to `out`.
+///
+/// The console is asked for one byte, and only where the next instruction takes one. What is printed waits in a buffer of
+/// 512 bytes, which is written out before each such question, when it is full, and at the end. Where the run has ended,
+/// now or before, the answer is its end at each `n`; `StepsUsed` comes exactly where it has not.
+///
+/// An error comes only where the count of faults of `console` or of `out` rose. After `Read` the machine still wants its
+/// byte, and all that was printed has been written. After `Write`, `out` holds a beginning of what was printed.
+///
+/// The clauses `run`, `read` and `write` speak of a machine that has no byte given by hand that is not yet used.
+pub fn drive<C: Source, O: Sink>(
+    machine: &mut Machine,
+    n: u64,
+    console: &mut C,
+    out: &mut O,
+) -> Result<Finish, DriveError>
+    // The machine, the input left and the output are those of the run after n instructions.
+    ensures run { WhereTold machine.old (C.left console.old) (λ input.
+        OnOk result (IsAt (driven machine.old n input) (driven_fits machine.old n input) machine.new machine.old.data_start (C.left console.new) (O.held out.old) (O.held out.new) [])) }
+    // The answer is the end of the machine, and one that had ended before has its end still. After Read it wants its byte.
+    ensures finish { IfOk result (λ finish. end_told finish ≡ machine.new.ended) }
+    ensures over { KeepsEnd machine.old machine.new }
+    ensures wants { result ≡ Err DriveError.Read → WantsAByte machine.new }
+
+    ensures read_cause { result ≡ Err DriveError.Read → Rose (C.faults console.old) (C.faults console.new) }
+    ensures write_cause { result ≡ Err DriveError.Write → Rose (O.faults out.old) (O.faults out.new) }
+    ensures console_faults { C.faults console.old ≤ C.faults console.new }
+    ensures out_faults { O.faults out.old ≤ O.faults out.new }
+
+    ensures read { WhereTold machine.old (C.left console.old) (λ input. result ≡ Err DriveError.Read →
+        (k : ℕ) × (k < n) × IsAt (driven machine.old k input) (driven_fits machine.old k input) machine.new machine.old.data_start (C.left console.new) (O.held out.old) (O.held out.new) []) }
+    ensures write { WhereTold machine.old (C.left console.old) (λ input. result ≡ Err DriveError.Write →
+        HoldsFront (O.held out.old) (O.held out.new) (driven machine.old n input).printed) }
+{
+    let mut buffer = Buffer::new();
+    for _made in 0..n {
+        if let Some(end) = turn(machine, &mut buffer, console, out)? {
+            buffer.flush(out)?;
+            return Ok(Finish::Ended(end));
+        }
+    }
+    buffer.flush(out)?;
+    match machine.ended() {
+        Some(end) => Ok(Finish::Ended(end)),
+        None => Ok(Finish::StepsUsed),
+    }
+}

@@ -1,0 +1,143 @@
+// Machines that are given their input byte by byte.
+ghost use Rattle.std.specs.Prelude.{◌≡◌, IfOk};
+ghost use Rattle.j1_simulator.specs.MachineState.{key_of, EndsBy, event_of, end_of, started, Steps, WantsAByte};
+
+use crate::counters::Depths;
+use crate::cpu::Cpu;
+use crate::effects::{Output, Pause};
+use crate::ends::{End, Event};
+use crate::memory::memory_cells;
+use console_ports::Fence;
+use j1_table::Image;
+use std::alloc::{AllocError, Global};
+use std::marker::Model;
+
+/// A J1 that runs an image.
+///
+/// Its program counter goes over the 8192 cells of memory. T and the 32 cells of the data ring are the data stack, the 32
+/// cells of the return ring the return stack. Contracts see all of it as one value, `MachineState`.
+#[derive(Drop)]
+pub struct Machine {
+    cpu: Cpu,
+    fence: Fence,
+    given: Option<Option<u8>>,
+    depths: Depths,
+    ended: Option<End>,
+}
+
+impl Model for Machine {
+    ghost use Rattle.j1_simulator.specs.MachineState.{MachineState};
+
+    ghost Value = { MachineState };
+
+    ghost view = { λ m. record { core = m.cpu; data_start = m.fence.data_start; given = m.given; depths = m.depths; ended = m.ended } };
+}
+
+// What a step that goes on answers.
+fn answer(output: Output) -> Event
+    ensures { result ≡ event_of output }
+{
+    match output {
+        Output::Silent => Event::Went,
+        Output::Prints(byte) => Event::Printed(byte),
+        Output::Halts(status) => Event::Ended(End::Halted(status)),
+    }
+}
+
+// The end that a step brings.
+fn end_after(output: Output) -> Option<End>
+    ensures { result ≡ end_of output }
+{
+    match output {
+        Output::Halts(status) => Some(End::Halted(status)),
+        _ => None,
+    }
+}
+
+// The byte that was given.
+fn key_in(given: Option<Option<u8>>) -> Option<u8>
+    ensures { result ≡ key_of given }
+{
+    match given {
+        None => None,
+        Some(key) => key,
+    }
+}
+
+impl Machine {
+    /// The machine at its start on an image: at cell 0, with T and both rings 0. An error is want of memory.
+    pub fn new(alloc: Global, image: &Image) -> Result<Machine, AllocError>
+        ensures { IfOk result (λ machine. machine ≡ started image.now) }
+    {
+        let memory = memory_cells(alloc, image)?;
+        Ok(Machine {
+            cpu: Cpu::new(memory),
+            fence: Fence {
+                data_start: image.data_start(),
+            },
+            given: None,
+            depths: Depths::new(),
+            ended: None,
+        })
+    }
+
+    fn end_by(&mut self, end: End) -> Event
+        ensures { EndsBy end result self.old self.new }
+    {
+        self.given = None;
+        self.ended = Some(end);
+        Event::Ended(end)
+    }
+
+    /// Makes one instruction, unless the run has ended or the instruction takes a byte and none was given.
+    ///
+    /// T, N and R are read first. Then comes the fetch, then the store, then both pointers move, and what goes into the
+    /// stacks is written at the new pointers. An access outside data space and the ports ends the run and changes nothing
+    /// else. `WantsByte` comes exactly where the next instruction takes a byte and none was given; the machine is then
+    /// unchanged. From the step that ends the run on, each step answers that same end and changes nothing.
+    pub fn step(&mut self) -> Event
+        ensures { Steps self.old.ended result self.old self.new }
+    {
+        if let Some(end) = self.ended {
+            return Event::Ended(end);
+        }
+        let effect = self.cpu.next_effect();
+        match self.cpu.step(self.fence, key_in(self.given)) {
+            Err(Pause::Wants) => match self.given {
+                None => Event::WantsByte,
+                Some(_) => self.end_by(End::InputEnded),
+            },
+            Err(Pause::Stops(end)) => self.end_by(end),
+            Ok(output) => {
+                self.given = None;
+                self.depths.count(effect);
+                self.ended = end_after(output);
+                answer(output)
+            }
+        }
+    }
+
+    /// The end, once the run has one.
+    pub fn ended(&self) -> Option<End>
+        ensures { result ≡ self.now.ended }
+    {
+        self.ended
+    }
+
+    /// Gives the byte that the last step wanted, or tells that the input has none left. The next step uses the byte, or ends
+    /// the run as `InputEnded`.
+    pub fn give_byte(&mut self, byte: Option<u8>)
+        requires { WantsAByte self.old }
+        ensures { self.new ≡ record self.old { given = Some byte } }
+    {
+        self.given = Some(byte);
+    }
+
+    /// Pushes less pops of the data stack and of the return stack since the start, in cells. Each is held at the ends of `i64`.
+    pub fn depths(&self) -> (i64, i64)
+        ensures data { result.0 ≡ self.now.depths.data_depth }
+        ensures returns { result.1 ≡ self.now.depths.return_depth }
+    {
+        (self.depths.of_data(), self.depths.of_return())
+    }
+}

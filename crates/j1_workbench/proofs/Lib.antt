@@ -1,0 +1,14 @@
+pub mod Appending
+pub mod Compiled
+pub mod Digits
+pub mod Driving
+pub mod Fetching
+pub mod Files
+pub mod Printing
+pub mod PrintingAgrees
+pub mod PrintingImage
+pub mod PrintingRun
+pub mod PrintingSource
+pub mod PrintingSteps
+pub mod Straight
+pub mod Texts

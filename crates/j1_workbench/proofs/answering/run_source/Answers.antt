@@ -1,0 +1,17 @@
+use Rattle.std.proofs.Common.{ap, sym, ◌∙◌, inl, inr}
+use Rattle.j1_workbench.specs.SourceText.{program_of_text}
+use Rattle.j1_workbench.proofs.Files.{read_tells, holds_other}
+use Rattle.j1_workbench.proofs.answering.run_source.Goals as goal
+
+pub returns-in-Ok-clause-run : goal.returns-in-Ok-clause-run
+returns-in-Ok-clause-run g c = λ text program told built.
+    c.run_text.ensures.run program (ap program_of_text c.as_slice.ensures.value ∙ read_tells (g.F.Folder.files c.args.files.now) c.args.source.now text c.in-Ok.text.items told c.in-Ok.ensures.bytes ∙ built)
+
+pub returns-in-Ok-clause-not_yet : goal.returns-in-Ok-clause-not_yet
+returns-in-Ok-clause-not_yet g c = λ answered.
+    holds_other (g.F.Folder.files c.args.files.now) c.args.source.now c.in-Ok.text.items c.in-Ok.ensures.bytes (ap program_of_text (sym c.as_slice.ensures.value) ∙ c.run_text.ensures.not_yet answered)
+
+pub returns-in-Ok-clause-other_text : goal.returns-in-Ok-clause-other_text
+returns-in-Ok-clause-other_text g c = λ text told none.
+    elim (c.run_text.ensures.other_text (ap program_of_text c.as_slice.ensures.value ∙ read_tells (g.F.Folder.files c.args.files.now) c.args.source.now text c.in-Ok.text.items told c.in-Ok.ensures.bytes ∙ none))
+    [ inl answered ↦ inl answered | inr answered ↦ inr (inr answered) ]

@@ -1,0 +1,19 @@
+use Rattle.std.proofs.Common.{map, string_bytes, refl, rules}
+use Rattle.j1_workbench.specs.declared.status.Status.TheVariants.{BadWords, StepsUsed, InputEnded, Outside, WriteFault}
+use Rattle.j1_workbench.proofs.Appending.{noted}
+use Rattle.j1_workbench.proofs.notes.write_note.Goals as goal
+
+pub returns-in-BadWords-clause-bytes : goal.returns-in-BadWords-clause-bytes
+returns-in-BadWords-clause-bytes g c = noted _ _ _ (map string_bytes c.args.words.now) c.args.status BadWords _ c.in-BadWords.is refl c.write_line.ensures.bytes
+
+pub returns-in-StepsUsed-clause-bytes : goal.returns-in-StepsUsed-clause-bytes
+returns-in-StepsUsed-clause-bytes g c = noted _ _ _ (map string_bytes c.args.words.now) c.args.status StepsUsed _ c.in-StepsUsed.is refl c.write_line-in-StepsUsed.ensures.bytes
+
+pub returns-in-InputEnded-clause-bytes : goal.returns-in-InputEnded-clause-bytes
+returns-in-InputEnded-clause-bytes g c = noted _ _ _ (map string_bytes c.args.words.now) c.args.status InputEnded _ c.in-InputEnded.is refl c.write_line-in-InputEnded.ensures.bytes
+
+pub returns-in-Outside-clause-bytes : goal.returns-in-Outside-clause-bytes
+returns-in-Outside-clause-bytes g c = noted _ _ _ (map string_bytes c.args.words.now) c.args.status (Outside c.in-Outside.address) _ c.in-Outside.is (search rules) c.write_line-in-Outside.ensures.bytes
+
+pub returns-in-WriteFault-clause-bytes : goal.returns-in-WriteFault-clause-bytes
+returns-in-WriteFault-clause-bytes g c = noted _ _ _ (map string_bytes c.args.words.now) c.args.status WriteFault _ c.in-WriteFault.is refl c.write_line-in-WriteFault.ensures.bytes

@@ -1,0 +1,119 @@
+-- When the workbench gives which answer.
+use Rattle.std.specs.Prelude.{◌≡◌, ◌⊎◌, ℕ, List, Option, Some, None, option_map, Result, Ok, Err, ⊤}
+use Rattle.std.specs.Io.KnownBytes.{Appends}
+use Rattle.outside_io.specs.Bytes.{AppendsFront}
+use Rattle.outside_io.specs.Causes.{Rose}
+use Rattle.outside_io.specs.Files.{Files}
+use Rattle.j1_table.specs.Image.{Content}
+use Rattle.j1_simulator.specs.declared.ends.End.{End}
+use Rattle.j1_simulator.specs.declared.ends.Finish.{Finish}
+use Rattle.j1_simulator.specs.declared.ends.Finish.TheVariants as finish
+use Rattle.j1_simulator.specs.declared.ends.DriveError.{DriveError}
+use Rattle.j1_simulator.specs.declared.ends.DriveError.TheVariants as drive
+use Rattle.j1_simulator.specs.Step.{By}
+use Rattle.j1_simulator.specs.Run.{round_run}
+use Rattle.j1_workbench.specs.declared.status.Status.{Status}
+use Rattle.j1_workbench.specs.declared.status.Status.TheVariants.{Done, BadWords, Missing, StepsUsed, InputEnded, Outside, Halted, ReadFault, WriteFault, OutOfMemory, NotYet}
+use Rattle.j1_workbench.specs.Words.{Request, Run, Build, Execute, ListImage, Assemble, Certify, Evaluate, Forth, Make}
+use Rattle.j1_workbench.specs.Statuses.{status_of}
+use Rattle.j1_workbench.specs.SourceText.{program_of_text}
+use Rattle.j1_workbench.specs.Layout.{laid_out}
+use Rattle.j1_workbench.specs.Headline.{Agrees}
+use Rattle.j1_workbench.specs.Notes.{note_of}
+use Rattle.forth_program.specs.Program.{SourceProgram}
+
+-- the source that is to be compiled and run, where that is asked for
+abbrev pub source_to_run : Request → Option (List ℕ)
+source_to_run (Run source None) = Some source
+source_to_run (Run source (Some steps)) = None
+source_to_run (Build source image) = None
+source_to_run (Execute image steps) = None
+source_to_run (ListImage image) = None
+source_to_run (Assemble listing image) = None
+source_to_run (Certify source) = None
+source_to_run (Evaluate source steps) = None
+source_to_run (Forth steps) = None
+source_to_run (Make seed count) = None
+
+-- these words ask to run the source of this name
+abbrev pub AsksToRun : Option Request → List ℕ → Type 0
+AsksToRun None source = ⊥
+AsksToRun (Some request) source = source_to_run request ≡ Some source
+
+-- these words have the form of a command that is not built yet
+abbrev pub AsksForMore : Option Request → Type 0
+AsksForMore None = ⊥
+AsksForMore (Some request) = source_to_run request ≡ None
+
+-- what a file holds, where the folder tells it
+abbrev pub text_in : Option Files → List ℕ → Option (List ℕ)
+text_in None name = None
+text_in (Some files) name = files name
+
+-- the file is there, where the folder tells it, with a text that is not built yet
+abbrev pub HoldsOtherText : Option Files → List ℕ → Type 0
+HoldsOtherText None name = ⊤
+HoldsOtherText (Some files) name = (text : List ℕ) × (files name ≡ Some text) × (program_of_text text ≡ None)
+
+-- the answers of a call that ran an image
+abbrev pub IsRunAnswer : Status → Type 0
+IsRunAnswer Done = ⊤
+IsRunAnswer StepsUsed = ⊤
+IsRunAnswer InputEnded = ⊤
+IsRunAnswer (Outside address) = ⊤
+IsRunAnswer (Halted status) = ⊤
+IsRunAnswer BadWords = ⊥
+IsRunAnswer Missing = ⊥
+IsRunAnswer ReadFault = ⊥
+IsRunAnswer WriteFault = ⊥
+IsRunAnswer OutOfMemory = ⊥
+IsRunAnswer NotYet = ⊥
+
+-- the answers of a call that is refused before its run
+abbrev pub IsRefusal : Status → Type 0
+IsRefusal BadWords = ⊤
+IsRefusal Missing = ⊤
+IsRefusal OutOfMemory = ⊤
+IsRefusal NotYet = ⊤
+IsRefusal Done = ⊥
+IsRefusal StepsUsed = ⊥
+IsRefusal InputEnded = ⊥
+IsRefusal (Outside address) = ⊥
+IsRefusal (Halted status) = ⊥
+IsRefusal ReadFault = ⊥
+IsRefusal WriteFault = ⊥
+
+-- a run of so many instructions on this input: the status of its end, the input left, and what it printed behind what out held
+pub record RanAs (image : Content) (input : List ℕ) (steps : ℕ) (status : Status) (left before now : Option (List ℕ)) : Type 0 where
+  pub end : Option End
+  pub end_is : option_map By end ≡ (round_run image input steps).stop
+  pub status_is : status ≡ status_of end
+  pub left_is : left ≡ Some (round_run image input steps).input
+  pub printed : Appends before now (round_run image input steps).printed
+
+-- the status of a drive
+abbrev pub status_after : Result Finish DriveError → Status
+status_after (Ok (finish.Ended end)) = status_of (Some end)
+status_after (Ok finish.StepsUsed) = StepsUsed
+status_after (Err drive.Read) = ReadFault
+status_after (Err drive.Write) = WriteFault
+
+-- a stream was not touched: its bytes, where it tells them, and its count of faults
+pub record IsUntouched (bytes_before bytes_now : Option (List ℕ)) (faults_before faults_now : ℕ) : Type 0 where
+  pub bytes : bytes_now ≡ bytes_before
+  pub faults : faults_now ≡ faults_before
+
+-- an answer stands, unless the write of its note failed
+abbrev pub UnlessNoteFails : ℕ → ℕ → Status → Type 0 → Type 0
+UnlessNoteFails faults_before faults_now result Answer = Answer ⊎ ((result ≡ WriteFault) × Rose faults_before faults_now)
+
+-- where a write to the output failed, or that of the notes, the notes hold the line of that fault, or the beginning of a line
+abbrev pub TellsNote : List (List ℕ) → Option (List ℕ) → Option (List ℕ) → ℕ → ℕ → Type 0
+TellsNote words before now faults_before faults_now =
+    Appends before now (note_of words WriteFault) ⊎ (Rose faults_before faults_now × ((status : Status) × AppendsFront before now (note_of words status)))
+
+-- a source was compiled: where it ran, the output, the input left and the status are those of its image on the chip,
+-- and its image agrees with what the source means
+pub record IsCompiled (program : SourceProgram) (input : List ℕ) (steps : ℕ) (status : Status) (left before now : Option (List ℕ)) : Type 0 where
+  pub ran : IsRunAnswer status → RanAs (laid_out program) input steps status left before now
+  pub agrees : Agrees program (laid_out program) input

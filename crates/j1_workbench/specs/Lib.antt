@@ -1,0 +1,10 @@
+pub mod Numbers
+pub mod Words
+pub mod Commands
+pub mod SourceText
+pub mod Layout
+pub mod Notes
+pub mod Statuses
+pub mod Headline
+pub mod HeadlineLaw
+pub mod Answers

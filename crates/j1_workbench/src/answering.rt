@@ -1,0 +1,162 @@
+// The answer of each command.
+ghost use Rattle.std.specs.Prelude.{◌≡◌, ◌≤◌, ◌↔◌, ◌⊎◌, ℕ, List, Some, None, IfSome, map, string_bytes};
+ghost use Rattle.outside_io.specs.Causes.{Rose};
+ghost use Rattle.outside_io.specs.Files.{Lacks, IsLacking, KeepsFiles};
+ghost use Rattle.forth_program.specs.Program.{SourceProgram};
+ghost use Rattle.j1_workbench.specs.Words.{request_of, steps_allowed};
+ghost use Rattle.j1_workbench.specs.SourceText.{program_of_text};
+ghost use Rattle.j1_workbench.specs.Layout.{laid_out};
+ghost use Rattle.j1_workbench.specs.Answers.{AsksToRun, AsksForMore, HoldsOtherText, text_in, IsRunAnswer, IsRefusal, RanAs, IsUntouched};
+
+use crate::layout::lay_out;
+use crate::running::run_image;
+use crate::source::program_of_text;
+use crate::status::Status;
+use crate::words::{Command, command_of};
+use outside_io::{FileFault, Folder, Sink, Source};
+use std::alloc::Global;
+
+// One byte more than a source may have.
+const MOST_SOURCE: usize = 65_537;
+
+// Compiles and runs a source text.
+fn run_text<C: Source, O: Sink>(
+    alloc: Global,
+    text: &[u8],
+    steps: u64,
+    console: &mut C,
+    out: &mut O,
+) -> Status
+    ensures run { (program : SourceProgram) → program_of_text text.now ≡ Some program →
+        IfSome (C.left console.old) (λ input. IsRunAnswer result →
+        RanAs (laid_out program) input steps result (C.left console.new) (O.held out.old) (O.held out.new)) }
+    ensures other_text { program_of_text text.now ≡ None → (result ≡ Status.NotYet) ⊎ (result ≡ Status.OutOfMemory) }
+    ensures not_yet { result ≡ Status.NotYet → program_of_text text.now ≡ None }
+    ensures bad_words { result ≡ Status.BadWords → ⊥ }
+    ensures missing { result ≡ Status.Missing → ⊥ }
+    ensures refused { IsRefusal result →
+        IsUntouched (C.left console.old) (C.left console.new) (C.faults console.old) (C.faults console.new)
+        × IsUntouched (O.held out.old) (O.held out.new) (O.faults out.old) (O.faults out.new) }
+
+    ensures read_fault { result ≡ Status.ReadFault → Rose (C.faults console.old) (C.faults console.new) }
+    ensures write_fault { result ≡ Status.WriteFault → Rose (O.faults out.old) (O.faults out.new) }
+    ensures console_faults { C.faults console.old ≤ C.faults console.new }
+    ensures out_faults { O.faults out.old ≤ O.faults out.new }
+{
+    let program = match program_of_text(alloc, text) {
+        Ok(Some(program)) => program,
+        Ok(None) => return Status::NotYet,
+        Err(_) => return Status::OutOfMemory,
+    };
+    match lay_out(alloc, &program) {
+        Ok(image) => run_image(alloc, &image, steps, console, out),
+        Err(_) => Status::OutOfMemory,
+    }
+}
+
+// How many instructions a run may make.
+#[tactic(auto, unfolding(crate::specs::Words::steps_allowed))]
+fn steps_allowed(steps: Option<u32>) -> u64
+    ensures { result ≡ steps_allowed steps }
+{
+    match steps {
+        None => 10_000_000,
+        Some(steps) => u64::from(steps),
+    }
+}
+
+// Reads, compiles and runs a source file.
+fn run_source<F: Folder, C: Source, O: Sink>(
+    alloc: Global,
+    source: &str,
+    steps: u64,
+    files: &mut F,
+    console: &mut C,
+    out: &mut O,
+) -> Status
+    ensures run { (text : List ℕ) (program : SourceProgram) → text_in (F.files files.old) source.now ≡ Some text → program_of_text text ≡ Some program →
+        IfSome (C.left console.old) (λ input. IsRunAnswer result →
+        RanAs (laid_out program) input steps result (C.left console.new) (O.held out.old) (O.held out.new)) }
+    ensures missing { result ≡ Status.Missing → Rose (F.absences files.old) (F.absences files.new) × Lacks (F.files files.old) source.now }
+    ensures lacking { IsLacking (F.files files.old) source.now →
+        (result ≡ Status.Missing) ⊎ ((result ≡ Status.ReadFault) × Rose (F.read_faults files.old) (F.read_faults files.new)) ⊎ (result ≡ Status.OutOfMemory) }
+    ensures not_yet { result ≡ Status.NotYet → HoldsOtherText (F.files files.old) source.now }
+    ensures other_text { (text : List ℕ) → text_in (F.files files.old) source.now ≡ Some text → program_of_text text ≡ None →
+        (result ≡ Status.NotYet) ⊎ ((result ≡ Status.ReadFault) × Rose (F.read_faults files.old) (F.read_faults files.new)) ⊎ (result ≡ Status.OutOfMemory) }
+    ensures bad_words { result ≡ Status.BadWords → ⊥ }
+    ensures refused { IsRefusal result →
+        IsUntouched (C.left console.old) (C.left console.new) (C.faults console.old) (C.faults console.new)
+        × IsUntouched (O.held out.old) (O.held out.new) (O.faults out.old) (O.faults out.new) }
+
+    ensures read_fault { result ≡ Status.ReadFault →
+        Rose (C.faults console.old) (C.faults console.new)
+        ⊎ (Rose (F.read_faults files.old) (F.read_faults files.new)
+        × IsUntouched (C.left console.old) (C.left console.new) (C.faults console.old) (C.faults console.new)
+        × IsUntouched (O.held out.old) (O.held out.new) (O.faults out.old) (O.faults out.new)) }
+    ensures write_fault { result ≡ Status.WriteFault → Rose (O.faults out.old) (O.faults out.new) }
+    ensures files { KeepsFiles (F.files files.old) (F.files files.new) }
+    ensures read_faults { F.read_faults files.old ≤ F.read_faults files.new }
+    ensures write_faults { F.write_faults files.new ≡ F.write_faults files.old }
+    ensures absences { F.absences files.old ≤ F.absences files.new }
+    ensures console_faults { C.faults console.old ≤ C.faults console.new }
+    ensures out_faults { O.faults out.old ≤ O.faults out.new }
+{
+    match files.read(alloc, source, MOST_SOURCE) {
+        Ok(text) => run_text(alloc, text.as_slice(), steps, console, out),
+        Err(FileFault::Absent) => Status::Missing,
+        Err(FileFault::Failed) => Status::ReadFault,
+        Err(FileFault::OutOfMemory) => Status::OutOfMemory,
+    }
+}
+
+/// The answer of a command, whose note is not written yet.
+pub fn answer<F: Folder, C: Source, O: Sink>(
+    alloc: Global,
+    words: &[String],
+    files: &mut F,
+    console: &mut C,
+    out: &mut O,
+) -> Status
+    ensures run { (source text : List ℕ) (program : SourceProgram) → AsksToRun (request_of (map string_bytes words.now)) source →
+        text_in (F.files files.old) source ≡ Some text → program_of_text text ≡ Some program →
+        IfSome (C.left console.old) (λ input. IsRunAnswer result →
+        RanAs (laid_out program) input (steps_allowed None) result (C.left console.new) (O.held out.old) (O.held out.new)) }
+    ensures bad_words { (result ≡ Status.BadWords) ↔ (request_of (map string_bytes words.now) ≡ None) }
+    ensures not_built { AsksForMore (request_of (map string_bytes words.now)) → result ≡ Status.NotYet }
+    ensures missing { result ≡ Status.Missing → (source : List ℕ) × AsksToRun (request_of (map string_bytes words.now)) source
+        × Rose (F.absences files.old) (F.absences files.new) × Lacks (F.files files.old) source }
+    ensures lacking { (source : List ℕ) → AsksToRun (request_of (map string_bytes words.now)) source → IsLacking (F.files files.old) source →
+        (result ≡ Status.Missing) ⊎ ((result ≡ Status.ReadFault) × Rose (F.read_faults files.old) (F.read_faults files.new)) ⊎ (result ≡ Status.OutOfMemory) }
+    ensures not_yet { result ≡ Status.NotYet → AsksForMore (request_of (map string_bytes words.now))
+        ⊎ ((source : List ℕ) × AsksToRun (request_of (map string_bytes words.now)) source × HoldsOtherText (F.files files.old) source) }
+    ensures other_text { (source text : List ℕ) → AsksToRun (request_of (map string_bytes words.now)) source →
+        text_in (F.files files.old) source ≡ Some text → program_of_text text ≡ None →
+        (result ≡ Status.NotYet) ⊎ ((result ≡ Status.ReadFault) × Rose (F.read_faults files.old) (F.read_faults files.new)) ⊎ (result ≡ Status.OutOfMemory) }
+    ensures refused { IsRefusal result →
+        IsUntouched (C.left console.old) (C.left console.new) (C.faults console.old) (C.faults console.new)
+        × IsUntouched (O.held out.old) (O.held out.new) (O.faults out.old) (O.faults out.new) }
+
+    ensures read_fault { result ≡ Status.ReadFault →
+        Rose (C.faults console.old) (C.faults console.new)
+        ⊎ (Rose (F.read_faults files.old) (F.read_faults files.new)
+        × IsUntouched (C.left console.old) (C.left console.new) (C.faults console.old) (C.faults console.new)
+        × IsUntouched (O.held out.old) (O.held out.new) (O.faults out.old) (O.faults out.new)) }
+    ensures write_fault { result ≡ Status.WriteFault → Rose (O.faults out.old) (O.faults out.new) }
+    ensures files { KeepsFiles (F.files files.old) (F.files files.new) }
+    ensures read_faults { F.read_faults files.old ≤ F.read_faults files.new }
+    ensures write_faults { F.write_faults files.new ≡ F.write_faults files.old }
+    ensures absences { F.absences files.old ≤ F.absences files.new }
+    ensures console_faults { C.faults console.old ≤ C.faults console.new }
+    ensures out_faults { O.faults out.old ≤ O.faults out.new }
+{
+    match command_of(words) {
+        None => Status::BadWords,
+        Some(
+            Command::Run {
+                source,
+                steps: None,
+            },
+        ) => run_source(alloc, source, steps_allowed(None), files, console, out),
+        Some(_) => Status::NotYet,
+    }
+}

@@ -1,0 +1,49 @@
+// How a call of the workbench ends.
+ghost use Rattle.std.specs.Prelude.{◌≡◌};
+ghost use Rattle.j1_workbench.specs.Statuses.{number_of};
+
+/// How a call of the workbench ends.
+#[derive(Clone, Copy, Debug, PartialEq, Eq)]
+pub enum Status {
+    /// The command did its work; a run halted with status 0.
+    Done,
+    /// The words have the form of no command.
+    BadWords,
+    /// The file to be read is not there.
+    Missing,
+    /// The run had no end within its instructions.
+    StepsUsed,
+    /// The run wanted an input byte where none was left.
+    InputEnded,
+    /// The run met no cell and no port at this byte address, whose bit 0 is cleared.
+    Outside(u16),
+    /// The run halted with this status, which is not 0.
+    Halted(u8),
+    /// A file or the console could not be read.
+    ReadFault,
+    /// The output, the notes or a file could not be written.
+    WriteFault,
+    /// There was no memory.
+    OutOfMemory,
+    /// The command, or the source text, is not built yet.
+    NotYet,
+}
+
+/// The exit status of the program for a status.
+pub fn status_number(status: &Status) -> u8
+    ensures { result ≡ number_of status.now }
+{
+    match status {
+        Status::Done => 0,
+        Status::BadWords => 1,
+        Status::Missing => 2,
+        Status::StepsUsed => 6,
+        Status::InputEnded => 7,
+        Status::Outside(_) => 8,
+        Status::Halted(_) => 9,
+        Status::ReadFault => 10,
+        Status::WriteFault => 11,
+        Status::OutOfMemory => 12,
+        Status::NotYet => 15,
+    }
+}

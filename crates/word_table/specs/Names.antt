@@ -1,0 +1,47 @@
+-- The names of the words, letters without case (ANS Forth, section 3.3.1.2).
+use Rattle.std.specs.Prelude.{◌≡◌, ℕ, Bool, true, false, List, [], ◌∷◌, Option, Some, None}
+use Rattle.std.specs.Str.{bytes_eq, str_to_ascii_lowercase}
+use Rattle.word_table.specs.declared.word.Word.{Word}
+use Rattle.word_table.specs.declared.word.Word.TheVariants.{Dup, DropTop, Swap, Over, Rot, TwoDup, TwoDrop, Plus, Minus, Negate, OnePlus, OneMinus, TwoStar, And, Or, Xor, Invert, LShift, RShift}
+use Rattle.word_table.specs.declared.word.Word.TheVariants.{Equal, Less, Greater, ULess, ZeroEqual, ZeroLess, SToD, Cells, CellPlus, Chars, CharPlus, Aligned, Fetch, Store, Emit, Key, Blank, Cr}
+use Rattle.word_table.specs.declared.word.Word.TheVariants.{Space, Base, Here, Decimal, Depth, AbortRun, Quit, ToR, RFrom, RFetch, Index, OuterIndex, Unloop, QDup, TwoSwap, TwoOver, Abs, Max, Min}
+use Rattle.word_table.specs.declared.word.Word.TheVariants.{TwoSlash, CFetch, CStore, PlusStore, TwoFetch, TwoStore, Count, Comma, CComma, Allot, Align, UMStar, MStar, Star, UMSlashMod, SMSlashRem}
+use Rattle.word_table.specs.declared.word.Word.TheVariants.{FMSlashMod, SlashMod, Slash, Mod, StarSlashMod, StarSlash, LessSharp, Hold, Sign, Sharp, SharpS, SharpGreater, Dot, UDot, TypeOut, Spaces}
+use Rattle.word_table.specs.declared.word.Word.TheVariants.{Fill, Move, Accept, ToNumber, Execute, SQuote, DotQuote, AbortQuote, If, While, Until, Else, Repeat, Then, Begin, Do, Loop, PlusLoop, Leave}
+use Rattle.word_table.specs.declared.word.Word.TheVariants.{Exit, Semicolon, Recurse, BracketTick, BracketChar, Literal, LeftBracket, RightBracket, Paren, Backslash, Colon, Tick, Char, Constant}
+use Rattle.word_table.specs.declared.word.Word.TheVariants.{Variable, Create, Does, ToBody}
+use Rattle.word_table.specs.Table.{row}
+
+-- the name of a word, letters in upper case
+abbrev pub name_of : Word → List ℕ
+name_of word = (row word).name
+
+-- whether a text is the word's name, letters without case
+abbrev pub is_named : List ℕ → Word → Bool
+is_named text word = bytes_eq (str_to_ascii_lowercase text) (str_to_ascii_lowercase (name_of word))
+
+-- every word, in the order of the table
+abbrev pub all_words : List Word
+all_words =
+    Dup ∷ DropTop ∷ Swap ∷ Over ∷ Rot ∷ TwoDup ∷ TwoDrop ∷ Plus ∷ Minus ∷ Negate ∷ OnePlus ∷ OneMinus ∷ TwoStar ∷ And ∷ Or ∷ Xor ∷
+    Invert ∷ LShift ∷ RShift ∷ Equal ∷ Less ∷ Greater ∷ ULess ∷ ZeroEqual ∷ ZeroLess ∷ SToD ∷ Cells ∷ CellPlus ∷ Chars ∷ CharPlus ∷
+    Aligned ∷ Fetch ∷ Store ∷ Emit ∷ Key ∷ Blank ∷ Cr ∷ Space ∷ Base ∷ Here ∷ Decimal ∷ Depth ∷ AbortRun ∷ Quit ∷ ToR ∷ RFrom ∷ RFetch ∷
+    Index ∷ OuterIndex ∷ Unloop ∷ QDup ∷ TwoSwap ∷ TwoOver ∷ Abs ∷ Max ∷ Min ∷ TwoSlash ∷ CFetch ∷ CStore ∷ PlusStore ∷ TwoFetch ∷
+    TwoStore ∷ Count ∷ Comma ∷ CComma ∷ Allot ∷ Align ∷ UMStar ∷ MStar ∷ Star ∷ UMSlashMod ∷ SMSlashRem ∷ FMSlashMod ∷ SlashMod ∷
+    Slash ∷ Mod ∷ StarSlashMod ∷ StarSlash ∷ LessSharp ∷ Hold ∷ Sign ∷ Sharp ∷ SharpS ∷ SharpGreater ∷ Dot ∷ UDot ∷ TypeOut ∷ Spaces ∷
+    Fill ∷ Move ∷ Accept ∷ ToNumber ∷ Execute ∷ SQuote ∷ DotQuote ∷ AbortQuote ∷ If ∷ While ∷ Until ∷ Else ∷ Repeat ∷ Then ∷ Begin ∷
+    Do ∷ Loop ∷ PlusLoop ∷ Leave ∷ Exit ∷ Semicolon ∷ Recurse ∷ BracketTick ∷ BracketChar ∷ Literal ∷ LeftBracket ∷ RightBracket ∷
+    Paren ∷ Backslash ∷ Colon ∷ Tick ∷ Char ∷ Constant ∷ Variable ∷ Create ∷ Does ∷ ToBody ∷ []
+
+-- the first of these words whose name is this text in lower case
+abbrev pub first_named : List ℕ → List Word → Option Word
+first_named lowered [] = None
+first_named lowered (word ∷ words) = elim (bytes_eq lowered (str_to_ascii_lowercase (name_of word))) [ true ↦ Some word | false ↦ first_named lowered words ]
+
+-- the word of a name
+abbrev pub word_named : List ℕ → Option Word
+word_named text = first_named (str_to_ascii_lowercase text) all_words
+
+-- each word is found by its own name: no two have one name
+abbrev pub EachIsFound : Type 0
+EachIsFound = (word : Word) → word_named (name_of word) ≡ Some word

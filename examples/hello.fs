@@ -1,0 +1,1 @@
+: MAIN 72 EMIT 105 EMIT ;
