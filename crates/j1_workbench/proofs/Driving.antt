@@ -1,20 +1,24 @@
 -- What a drive from the start leaves, as the status tells it.
-use Rattle.std.proofs.Common.{◌≡◌, ℕ, List, [], ◌++◌, Bool, refl, sym, ap, ◌∙◌, subst}
+use Rattle.std.proofs.Common.{◌≡◌, ℕ, zero, suc, ◌<◌, List, [], ◌++◌, Bool, refl, sym, ap, ◌∙◌, subst, arith}
 use Rattle.std.specs.Prelude.{Option, Some, None, Result, Ok, Err, IfSome, IfOk, OnOk}
 use Rattle.std.specs.Io.KnownBytes.{Appends}
 use Rattle.std.proofs.lemmas.List.{append-nil}
 use Rattle.j1_table.specs.Image.{Content}
 use Rattle.j1_simulator.specs.declared.ends.End.{End}
+use Rattle.j1_simulator.specs.declared.ends.End.TheVariants as ends
 use Rattle.j1_simulator.specs.declared.ends.Finish.{Finish}
 use Rattle.j1_simulator.specs.declared.ends.Finish.TheVariants.{Ended, StepsUsed}
 use Rattle.j1_simulator.specs.declared.ends.DriveError.{DriveError}
 use Rattle.j1_simulator.specs.declared.ends.DriveError.TheVariants.{Read, Write}
 use Rattle.j1_simulator.specs.MachineState.{MachineState, started}
-use Rattle.j1_simulator.specs.Run.{round_run}
-use Rattle.j1_simulator.specs.Drive.{Holds, IsAt, driven, driven_fits, WhereTold, end_told}
+use Rattle.j1_simulator.specs.Run.{round_run, round_start, begun, IsPrefixOf}
+use Rattle.j1_simulator.specs.RoundMachine.{round_storage}
+use Rattle.j1_simulator.specs.Laws.{OnlyGrows}
+use Rattle.j1_simulator.specs.Drive.{Holds, HoldsFront, IsAt, driven, driven_fits, WhereTold, end_told}
 use Rattle.j1_workbench.specs.declared.status.Status.{Status}
-use Rattle.j1_workbench.specs.Statuses.{status_of}
-use Rattle.j1_workbench.specs.Answers.{IsRunAnswer, RanAs, status_after}
+use Rattle.j1_workbench.specs.declared.status.Status.TheVariants.{ReadFault}
+use Rattle.j1_workbench.specs.Statuses.{status_of, halted_status}
+use Rattle.j1_workbench.specs.Answers.{IsRunAnswer, IsFault, RanAs, RunLeaves, status_after}
 
 -- where nothing waits in the buffer, all that was printed stands in out
 all_written : (before now : Option (List ℕ)) (printed : List ℕ) → Holds before now [] printed → Appends before now printed
@@ -27,19 +31,72 @@ ran : (image : Content) (input : List ℕ) (steps : ℕ) (fits : Bool) (after : 
 ran image input steps fits after end status left before now at same is =
     record { end = after.ended; end_is = at.ended; status_is = is ∙ ap status_of same; left_is = at.left_is; printed = all_written before now _ at.out }
 
-ran_as : (image : Content) (input : List ℕ) (steps : ℕ) (fits : Bool) (after : MachineState) (result : Result Finish DriveError) (status : Status) (left before now : Option (List ℕ)) →
-    OnOk result (IsAt (round_run image input steps) fits after image.data_start left before now []) → IfOk result (λ finish. end_told finish ≡ after.ended) → status ≡ status_after result → IsRunAnswer status → RanAs image input steps status left before now
-ran_as image input steps fits after (Ok (Ended end)) status left before now at same is answered = ran image input steps fits after (Some end) status left before now at same is
-ran_as image input steps fits after (Ok StepsUsed) status left before now at same is answered = ran image input steps fits after None status left before now at same is
-ran_as image input steps fits after (Err Read) status left before now at same is answered = absurd (subst IsRunAnswer is answered)
-ran_as image input steps fits after (Err Write) status left before now at same is answered = absurd (subst IsRunAnswer is answered)
+some_is : {A : Type 0} (x y : A) → Some x ≡ Some y → x ≡ y
+some_is x y e = cc
 
-pub drives_as : (image : Content) (steps : ℕ) (machine after : MachineState) (result : Result Finish DriveError) (status : Status) (left left_now before now : Option (List ℕ)) →
-    machine ≡ started image →
-    WhereTold machine left (λ input. OnOk result (IsAt (driven machine steps input) (driven_fits machine steps input) after machine.data_start left_now before now [])) →
+-- no end of a run is a fault
+no_halt_fault : (status : ℕ) → IsFault (halted_status status) → ⊥
+no_halt_fault zero fault = fault
+no_halt_fault (suc n) fault = fault
+
+no_fault : (end : Option End) → IsFault (status_of end) → ⊥
+no_fault None fault = fault
+no_fault (Some (ends.Halted status)) fault = no_halt_fault status fault
+no_fault (Some ends.InputEnded) fault = fault
+no_fault (Some (ends.Outside address)) fault = fault
+
+-- a beginning of a beginning
+front_of : (before now : Option (List ℕ)) (printed all : List ℕ) → Holds before now [] printed → IsPrefixOf printed all → HoldsFront before now all
+front_of None now printed all held front = tt
+front_of (Some old) None printed all held front = absurd held
+front_of (Some old) (Some new) printed all held front = (held.0, held.1, (front.0, ap (λ l. l ++ front.0) (sym (append-nil held.0) ∙ held.2) ∙ front.1))
+
+-- nothing was printed at all
+pub front_of_nothing : (before now : Option (List ℕ)) (all : List ℕ) → now ≡ before → HoldsFront before now all
+front_of_nothing None now all same = tt
+front_of_nothing (Some old) None all same = cc
+front_of_nothing (Some old) (Some new) all same = ([], some_is new old same ∙ sym (append-nil old), (all, refl))
+
+-- what an Ok, a failed read and a failed write say
+abbrev pub OkSays : ℕ → MachineState → MachineState → Result Finish DriveError → Option (List ℕ) → Option (List ℕ) → Option (List ℕ) → List ℕ → Type 0
+OkSays steps machine after result left_now before now input =
+    OnOk result (IsAt (driven machine steps input) (driven_fits machine steps input) after machine.data_start left_now before now [])
+
+abbrev pub ReadSays : ℕ → MachineState → MachineState → Result Finish DriveError → Option (List ℕ) → Option (List ℕ) → Option (List ℕ) → List ℕ → Type 0
+ReadSays steps machine after result left_now before now input =
+    result ≡ Err Read → (k : ℕ) × (k < steps) × IsAt (driven machine k input) (driven_fits machine k input) after machine.data_start left_now before now []
+
+abbrev pub WriteSays : ℕ → MachineState → Result Finish DriveError → Option (List ℕ) → Option (List ℕ) → List ℕ → Type 0
+WriteSays steps machine result before now input = result ≡ Err Write → HoldsFront before now (driven machine steps input).printed
+
+leaves : (image : Content) (input : List ℕ) (steps : ℕ) (after : MachineState) (result : Result Finish DriveError) (status : Status) (left before now : Option (List ℕ)) →
+    OnlyGrows round_storage →
+    OkSays steps (started image) after result left before now input → ReadSays steps (started image) after result left before now input → WriteSays steps (started image) result before now input →
+    IfOk result (λ finish. end_told finish ≡ after.ended) → status ≡ status_after result → RunLeaves image input steps status left before now
+leaves image input steps after (Ok (Ended end)) status left before now grows at read write same is =
+    record { ran = λ answered. ran image input steps _ after (Some end) status left before now at same is; broke_off = λ fault. absurd (no_fault (Some end) (subst IsFault is fault)) }
+leaves image input steps after (Ok StepsUsed) status left before now grows at read write same is =
+    record { ran = λ answered. ran image input steps _ after None status left before now at same is; broke_off = λ fault. absurd (subst IsFault is fault) }
+leaves image input steps after (Err Read) status left before now grows at read write same is =
+    let told = read refl in
+    record { ran = λ answered. absurd (subst IsRunAnswer is answered); broke_off = λ fault. front_of before now _ _ told.2.out (grows.prints image.data_start told.0 steps (begun (round_start image) input) (omega arith)) }
+leaves image input steps after (Err Write) status left before now grows at read write same is =
+    record { ran = λ answered. absurd (subst IsRunAnswer is answered); broke_off = λ fault. write refl }
+
+-- a drive from the start, over a console that may tell its bytes
+pub drives_leave : (image : Content) (steps : ℕ) (machine after : MachineState) (result : Result Finish DriveError) (status : Status) (left left_now before now : Option (List ℕ)) →
+    OnlyGrows round_storage → machine ≡ started image →
+    WhereTold machine left (OkSays steps machine after result left_now before now) → WhereTold machine left (ReadSays steps machine after result left_now before now) → WhereTold machine left (WriteSays steps machine result before now) →
     IfOk result (λ finish. end_told finish ≡ after.ended) → status ≡ status_after result →
-    IfSome left (λ input. IsRunAnswer status → RanAs image input steps status left_now before now)
-drives_as image steps machine after result status None left_now before now begun run same is = tt
-drives_as image steps machine after result status (Some input) left_now before now begun run same is =
-    let told = subst (λ m. WhereTold m (Some input) (λ input. OnOk result (IsAt (driven m steps input) (driven_fits m steps input) after m.data_start left_now before now []))) begun run in
-    ran_as image input steps (driven_fits (started image) steps input) after result status left_now before now (told refl) same is
+    IfSome left (λ input. RunLeaves image input steps status left_now before now)
+drives_leave image steps machine after result status None left_now before now grows begins run read write same is = tt
+drives_leave image steps machine after result status (Some input) left_now before now grows begins run read write same is =
+    let run' = subst (λ m. WhereTold m (Some input) (OkSays steps m after result left_now before now)) begins run in
+    let read' = subst (λ m. WhereTold m (Some input) (ReadSays steps m after result left_now before now)) begins read in
+    let write' = subst (λ m. WhereTold m (Some input) (WriteSays steps m result before now)) begins write in
+    leaves image input steps after result status left_now before now grows (run' refl) (read' refl) (write' refl) same is
+
+-- a call that failed before its run
+pub failed_leaves : (image : Content) (steps : ℕ) (left held : Option (List ℕ)) → IfSome left (λ input. RunLeaves image input steps ReadFault left held held)
+failed_leaves image steps None held = tt
+failed_leaves image steps (Some input) held = record { ran = λ answered. absurd answered; broke_off = λ fault. front_of_nothing held held _ refl }

@@ -12,6 +12,7 @@ use Rattle.j1_simulator.specs.declared.ends.DriveError.{DriveError}
 use Rattle.j1_simulator.specs.declared.ends.DriveError.TheVariants as drive
 use Rattle.j1_simulator.specs.Step.{By}
 use Rattle.j1_simulator.specs.Run.{round_run}
+use Rattle.j1_simulator.specs.Drive.{HoldsFront}
 use Rattle.j1_workbench.specs.declared.status.Status.{Status}
 use Rattle.j1_workbench.specs.declared.status.Status.TheVariants.{Done, BadWords, Missing, StepsUsed, InputEnded, Outside, Halted, ReadFault, WriteFault, OutOfMemory, NotYet}
 use Rattle.j1_workbench.specs.Words.{Request, Run, Build, Execute, ListImage, Assemble, Certify, Evaluate, Forth, Make}
@@ -91,6 +92,25 @@ pub record RanAs (image : Content) (input : List ℕ) (steps : ℕ) (status : St
   pub left_is : left ≡ Some (round_run image input steps).input
   pub printed : Appends before now (round_run image input steps).printed
 
+-- the answers of a call in which a read or a write failed
+abbrev pub IsFault : Status → Type 0
+IsFault ReadFault = ⊤
+IsFault WriteFault = ⊤
+IsFault Done = ⊥
+IsFault StepsUsed = ⊥
+IsFault InputEnded = ⊥
+IsFault (Outside address) = ⊥
+IsFault (Halted status) = ⊥
+IsFault BadWords = ⊥
+IsFault Missing = ⊥
+IsFault OutOfMemory = ⊥
+IsFault NotYet = ⊥
+
+-- what a call leaves that was to run an image: all of the run, or after a fault a beginning of what it prints
+pub record RunLeaves (image : Content) (input : List ℕ) (steps : ℕ) (status : Status) (left before now : Option (List ℕ)) : Type 0 where
+  pub ran : IsRunAnswer status → RanAs image input steps status left before now
+  pub broke_off : IsFault status → HoldsFront before now (round_run image input steps).printed
+
 -- the status of a drive
 abbrev pub status_after : Result Finish DriveError → Status
 status_after (Ok (finish.Ended end)) = status_of (Some end)
@@ -112,8 +132,7 @@ abbrev pub TellsNote : List (List ℕ) → Option (List ℕ) → Option (List �
 TellsNote words before now faults_before faults_now =
     Appends before now (note_of words WriteFault) ⊎ (Rose faults_before faults_now × ((status : Status) × AppendsFront before now (note_of words status)))
 
--- a source was compiled: where it ran, the output, the input left and the status are those of its image on the chip,
--- and its image agrees with what the source means
+-- a source was compiled: what the call leaves is what its image does on the chip, and its image agrees with what the source means
 pub record IsCompiled (program : SourceProgram) (input : List ℕ) (steps : ℕ) (status : Status) (left before now : Option (List ℕ)) : Type 0 where
-  pub ran : IsRunAnswer status → RanAs (laid_out program) input steps status left before now
+  pub run : RunLeaves (laid_out program) input steps status left before now
   pub agrees : Agrees program (laid_out program) input

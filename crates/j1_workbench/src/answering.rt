@@ -6,7 +6,7 @@ ghost use Rattle.forth_program.specs.Program.{SourceProgram};
 ghost use Rattle.j1_workbench.specs.Words.{request_of, steps_allowed};
 ghost use Rattle.j1_workbench.specs.SourceText.{program_of_text};
 ghost use Rattle.j1_workbench.specs.Layout.{laid_out};
-ghost use Rattle.j1_workbench.specs.Answers.{AsksToRun, AsksForMore, HoldsOtherText, text_in, IsRunAnswer, IsRefusal, RanAs, IsUntouched};
+ghost use Rattle.j1_workbench.specs.Answers.{AsksToRun, AsksForMore, HoldsOtherText, text_in, IsRefusal, RunLeaves, IsUntouched};
 
 use crate::layout::lay_out;
 use crate::running::run_image;
@@ -28,8 +28,8 @@ fn run_text<C: Source, O: Sink>(
     out: &mut O,
 ) -> Status
     ensures run { (program : SourceProgram) → program_of_text text.now ≡ Some program →
-        IfSome (C.left console.old) (λ input. IsRunAnswer result →
-        RanAs (laid_out program) input steps result (C.left console.new) (O.held out.old) (O.held out.new)) }
+        IfSome (C.left console.old) (λ input.
+        RunLeaves (laid_out program) input steps result (C.left console.new) (O.held out.old) (O.held out.new)) }
     ensures other_text { program_of_text text.now ≡ None → (result ≡ Status.NotYet) ⊎ (result ≡ Status.OutOfMemory) }
     ensures not_yet { result ≡ Status.NotYet → program_of_text text.now ≡ None }
     ensures bad_words { result ≡ Status.BadWords → ⊥ }
@@ -75,8 +75,8 @@ fn run_source<F: Folder, C: Source, O: Sink>(
     out: &mut O,
 ) -> Status
     ensures run { (text : List ℕ) (program : SourceProgram) → text_in (F.files files.old) source.now ≡ Some text → program_of_text text ≡ Some program →
-        IfSome (C.left console.old) (λ input. IsRunAnswer result →
-        RanAs (laid_out program) input steps result (C.left console.new) (O.held out.old) (O.held out.new)) }
+        IfSome (C.left console.old) (λ input.
+        RunLeaves (laid_out program) input steps result (C.left console.new) (O.held out.old) (O.held out.new)) }
     ensures missing { result ≡ Status.Missing → Rose (F.absences files.old) (F.absences files.new) × Lacks (F.files files.old) source.now }
     ensures lacking { IsLacking (F.files files.old) source.now →
         (result ≡ Status.Missing) ⊎ ((result ≡ Status.ReadFault) × Rose (F.read_faults files.old) (F.read_faults files.new)) ⊎ (result ≡ Status.OutOfMemory) }
@@ -119,8 +119,8 @@ pub fn answer<F: Folder, C: Source, O: Sink>(
 ) -> Status
     ensures run { (source text : List ℕ) (program : SourceProgram) → AsksToRun (request_of (map string_bytes words.now)) source →
         text_in (F.files files.old) source ≡ Some text → program_of_text text ≡ Some program →
-        IfSome (C.left console.old) (λ input. IsRunAnswer result →
-        RanAs (laid_out program) input (steps_allowed None) result (C.left console.new) (O.held out.old) (O.held out.new)) }
+        IfSome (C.left console.old) (λ input.
+        RunLeaves (laid_out program) input (steps_allowed None) result (C.left console.new) (O.held out.old) (O.held out.new)) }
     ensures bad_words { (result ≡ Status.BadWords) ↔ (request_of (map string_bytes words.now) ≡ None) }
     ensures not_built { AsksForMore (request_of (map string_bytes words.now)) → result ≡ Status.NotYet }
     ensures missing { result ≡ Status.Missing → (source : List ℕ) × AsksToRun (request_of (map string_bytes words.now)) source

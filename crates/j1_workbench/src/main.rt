@@ -16,33 +16,44 @@ mod workbench;
 
 use outside_io::{StdFolder, StdSink, StdSource};
 pub use status::{Status, status_number};
+use std::alloc::AllocError;
+use std::env;
+use std::io::ErrorKind;
 use std::process::ExitCode;
-use std::{env, io};
 pub use workbench::workbench;
 
 // The words after the program's name. Words that are no text have the form of no command, and neither has an empty list.
-fn words_after_name(rt: &HostRuntime) -> io::Result<Vec<String>> {
+fn words_after_name(rt: &HostRuntime) -> Result<Vec<String>, AllocError> {
     match env::args(rt) {
-        Ok(words) => Ok(words.skip(1).collect(rt.alloc())?),
-        Err(error) if error.kind() == io::ErrorKind::InvalidData => Ok(Vec::new(rt.alloc())),
-        Err(error) => Err(error),
+        Ok(words) => words.skip(1).collect(rt.alloc()),
+        Err(error) => match error.kind() {
+            ErrorKind::OutOfMemory => Err(AllocError),
+            _ => Ok(Vec::new(rt.alloc())),
+        },
     }
 }
 
-fn main(rt: HostRuntime) -> io::Result<ExitCode> {
-    let words = words_after_name(&rt)?;
+// The call on the streams and the folder of the system.
+fn call(rt: HostRuntime) -> Status {
+    let words = match words_after_name(&rt) {
+        Ok(words) => words,
+        Err(AllocError) => return Status::OutOfMemory,
+    };
     let alloc = rt.alloc();
     let mut console = StdSource::new(rt.stdin());
     let mut out = StdSink::new(rt.stdout());
     let mut notes = StdSink::new(rt.stderr());
     let mut files = StdFolder::new(rt);
-    let status = workbench(
+    workbench(
         alloc,
         words.as_slice(),
         &mut files,
         &mut console,
         &mut out,
         &mut notes,
-    );
-    Ok(ExitCode::from(status_number(&status)))
+    )
+}
+
+fn main(rt: HostRuntime) -> ExitCode {
+    ExitCode::from(status_number(&call(rt)))
 }

@@ -2,10 +2,10 @@
 ghost use Rattle.std.specs.Prelude.{◌≡◌, ◌≤◌, IfSome};
 ghost use Rattle.outside_io.specs.Causes.{Rose};
 ghost use Rattle.j1_workbench.specs.Statuses.{status_of};
-ghost use Rattle.j1_workbench.specs.Answers.{IsRunAnswer, RanAs, IsUntouched, status_after};
+ghost use Rattle.j1_workbench.specs.Answers.{RunLeaves, IsUntouched, status_after};
 
 use crate::status::Status;
-use j1_simulator::{DriveError, End, Finish, Machine, drive};
+use j1_simulator::{DriveError, End, Finish, Machine, drive, runs_only_grow};
 use j1_table::Image;
 use outside_io::{Sink, Source};
 use std::alloc::Global;
@@ -42,8 +42,8 @@ pub fn run_image<C: Source, O: Sink>(
     console: &mut C,
     out: &mut O,
 ) -> Status
-    ensures run { IfSome (C.left console.old) (λ input. IsRunAnswer result →
-        RanAs image.now input steps result (C.left console.new) (O.held out.old) (O.held out.new)) }
+    ensures run { IfSome (C.left console.old) (λ input.
+        RunLeaves image.now input steps result (C.left console.new) (O.held out.old) (O.held out.new)) }
     ensures bad_words { result ≡ Status.BadWords → ⊥ }
     ensures missing { result ≡ Status.Missing → ⊥ }
     ensures not_yet { result ≡ Status.NotYet → ⊥ }
@@ -60,5 +60,7 @@ pub fn run_image<C: Source, O: Sink>(
         Ok(machine) => machine,
         Err(_) => return Status::OutOfMemory,
     };
+    // what was printed when a drive broke off is a beginning of all that the run prints
+    runs_only_grow();
     status_after(drive(&mut machine, steps, console, out))
 }

@@ -340,6 +340,43 @@ fn writes_in_order(rt: HostRuntime) -> Result<(), Fail> {
     Ok(())
 }
 
+// Prints `A`, and then a byte of the input, again and again.
+const ECHO: [u16; 10] = [
+    0x8041, 0xC000, 0x6023, 0x6103, 0xC002, 0x6C00, 0xC000, 0x6023, 0x6103, 0x0000,
+];
+
+// Three questions and four writes; each fails in turn, and a call behind the last does not come.
+#[test]
+fn fails_at_each_call(rt: HostRuntime) -> Result<(), Fail> {
+    let ended = Ok(Finish::Ended(End::InputEnded));
+    let reads: [(&[u32], Result<Finish, DriveError>, &[u8]); 4] = [
+        (&[1], Err(DriveError::Read), b"A"),
+        (&[2], Err(DriveError::Read), b"AxA"),
+        (&[3], Err(DriveError::Read), b"AxAyA"),
+        (&[4], ended, b"AxAyA"),
+    ];
+    for (fails, finish, printed) in reads {
+        let mut out = MemSink::new(rt.alloc(), 1000, &[])?;
+        let drove = drive_code(rt.alloc(), &ECHO, 999, b"xy", fails, &mut out)?;
+        assert_eq!(rt; drove, finish);
+        assert_eq!(rt; out.held(), printed);
+    }
+    let writes: [(&[u32], Result<Finish, DriveError>, &[u8]); 5] = [
+        (&[1], Err(DriveError::Write), b""),
+        (&[2], Err(DriveError::Write), b"A"),
+        (&[3], Err(DriveError::Write), b"AxA"),
+        (&[4], Err(DriveError::Write), b"AxAyA"),
+        (&[5], ended, b"AxAyA"),
+    ];
+    for (fails, finish, printed) in writes {
+        let mut out = MemSink::new(rt.alloc(), 1000, fails)?;
+        let drove = drive_code(rt.alloc(), &ECHO, 999, b"xy", &[], &mut out)?;
+        assert_eq!(rt; drove, finish);
+        assert_eq!(rt; out.held(), printed);
+    }
+    Ok(())
+}
+
 #[test]
 fn counts_depths(rt: HostRuntime) -> Result<(), Fail> {
     let image = Image::new(rt.alloc(), &[0x700C], &[])?;

@@ -1,7 +1,7 @@
 use Rattle.std.proofs.Common.{◌≡◌, Some, None, map, string_bytes, rules, subst, sym}
 use Rattle.std.specs.Prelude.{IfSome}
 use Rattle.j1_workbench.specs.Words.{request_of, Run}
-use Rattle.j1_workbench.specs.Answers.{IsRunAnswer, RanAs, text_in}
+use Rattle.j1_workbench.specs.Answers.{RunLeaves, text_in}
 use Rattle.j1_workbench.specs.Layout.{laid_out}
 use Rattle.j1_workbench.proofs.Files.{asked}
 use Rattle.j1_workbench.proofs.answering.answer.Goals as goal
@@ -11,5 +11,5 @@ returns-in-Some-Run-default-None-clause-run g c = λ source text program asks to
     let given : request_of (map string_bytes c.args.words.now) ≡ Some (Run c.in-Some-Run-default-None.source.now None) = search rules in
     let same = asked _ c.in-Some-Run-default-None.source.now source given asks in
     let ran = c.run_source.ensures.run text program (subst (λ s. text_in (g.F.Folder.files c.args.files.now) s ≡ Some text) (sym same) told) built in
-    subst (λ n. IfSome (g.C.Source.left c.args.console.now) (λ input. IsRunAnswer c.run_source.result → RanAs (laid_out program) input n c.run_source.result (g.C.Source.left c.run_source.new.console) (g.O.Sink.held c.args.out.now) (g.O.Sink.held c.run_source.new.out)))
+    subst (λ n. IfSome (g.C.Source.left c.args.console.now) (λ input. RunLeaves (laid_out program) input n c.run_source.result (g.C.Source.left c.run_source.new.console) (g.O.Sink.held c.args.out.now) (g.O.Sink.held c.run_source.new.out)))
     c.steps_allowed.ensures ran

@@ -1,5 +1,7 @@
 use Rattle.std.proofs.Common.{ap, sym, ◌∙◌, inl, inr}
 use Rattle.j1_workbench.specs.SourceText.{program_of_text}
+use Rattle.j1_workbench.specs.Layout.{laid_out}
+use Rattle.j1_workbench.proofs.Driving.{failed_leaves}
 use Rattle.j1_workbench.proofs.Files.{read_tells, holds_other}
 use Rattle.j1_workbench.proofs.answering.run_source.Goals as goal
 
@@ -15,3 +17,6 @@ pub returns-in-Ok-clause-other_text : goal.returns-in-Ok-clause-other_text
 returns-in-Ok-clause-other_text g c = λ text told none.
     elim (c.run_text.ensures.other_text (ap program_of_text c.as_slice.ensures.value ∙ read_tells (g.F.Folder.files c.args.files.now) c.args.source.now text c.in-Ok.text.items told c.in-Ok.ensures.bytes ∙ none))
     [ inl answered ↦ inl answered | inr answered ↦ inr (inr answered) ]
+
+pub returns-in-Err-Failed-clause-run : goal.returns-in-Err-Failed-clause-run
+returns-in-Err-Failed-clause-run g c = λ text program told built. failed_leaves (laid_out program) c.args.steps (g.C.Source.left c.args.console.now) (g.O.Sink.held c.args.out.now)
