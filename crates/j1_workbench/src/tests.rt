@@ -1,4 +1,6 @@
 // Worked calls of the workbench and of the machine, with answers from outside.
+mod reading;
+
 use crate::{Status, status_number, workbench};
 use j1_simulator::{DriveError, End, Event, Finish, Machine, drive};
 use j1_table::Image;

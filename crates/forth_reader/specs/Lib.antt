@@ -1,0 +1,6 @@
+pub mod Bytes
+pub mod Reading
+pub mod ReaderState
+pub mod Number
+pub mod Splitting
+pub mod TokenList

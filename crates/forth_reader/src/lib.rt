@@ -1,0 +1,26 @@
+//! Reads Forth source: tokens, comments, the texts of string words, names and numbers.
+//!
+//! A source is a list of bytes. A `Reader` goes over it once and takes no memory: `next` gives the next token that is no
+//! comment, `name` the next token whatever it is, and `string` the text that follows a string word (ANS Forth, sections
+//! 3.4.1 and 6.1). `number_of` says which number a token spells.
+//!
+//! In `specs/`, `Reading` computes what stands at a place of a text, and `Splitting` says what it means: how the text
+//! falls into blanks, whole comments, the token and the rest. The law `readings_are_splittings` ties the two.
+#![tactic(auto)]
+
+mod ascii;
+mod bytes;
+mod comments;
+mod laws;
+mod number;
+mod reader;
+mod refusal;
+mod runs;
+mod strings;
+mod token;
+
+pub use laws::{readings_are_splittings, texts_have_one_token_list};
+pub use number::{NumberRead, number_of};
+pub use reader::Reader;
+pub use refusal::{ReadCause, ReadRefusal};
+pub use token::Token;

@@ -1,0 +1,87 @@
+// Tokens as numbers (ANS Forth, 3.4.1.3).
+ghost use Rattle.std.specs.Prelude.{◌≡◌, ◌≤◌};
+ghost use Rattle.forth_reader.specs.Number.{raised_letter, digit_value, digits_read, number_read};
+
+/// What a token is as a number.
+#[derive(Clone, Copy, Debug, PartialEq, Eq)]
+pub enum NumberRead {
+    /// A number from -32768 to 65535, as a cell: a negative one in two's complement.
+    Value(u16),
+    /// It has the form of a number, and is out of range.
+    Range,
+    /// It has not the form of a number.
+    NotNumber,
+}
+
+fn raised_letter(byte: u8) -> u8
+    ensures { result ≡ raised_letter byte }
+{
+    if byte >= b'a' && byte <= b'z' {
+        byte - 32
+    } else {
+        byte
+    }
+}
+
+// The value of a digit or a letter, 36 for any other byte.
+fn digit_value(byte: u8) -> u32
+    ensures value { result ≡ digit_value byte }
+    ensures small { result ≤ 36 }
+{
+    let letter = raised_letter(byte);
+    if byte >= b'0' && byte <= b'9' {
+        (byte - b'0') as u32
+    } else if letter >= b'A' && letter <= b'Z' {
+        (letter - b'A') as u32 + 10
+    } else {
+        36
+    }
+}
+
+// Digits of any length: values past the range of a cell are alike, so they are held at 65536.
+fn digits_read(text: &[u8], base: u16, is_negative: bool) -> NumberRead
+    requires { (1 ≤ base) × (base ≤ 36) }
+    ensures { result ≡ digits_read base is_negative text.now }
+{
+    if text.is_empty() {
+        return NumberRead::NotNumber;
+    }
+    let mut value: u32 = 0;
+    let mut rest = text;
+    while let Some((byte, tail)) = rest.split_first() {
+        let next = digit_value(*byte);
+        if next >= base as u32 {
+            return NumberRead::NotNumber;
+        }
+        value = (value * base as u32 + next).min(65536);
+        rest = tail;
+    }
+    if is_negative {
+        if value > 32768 {
+            NumberRead::Range
+        } else if value == 0 {
+            NumberRead::Value(0)
+        } else {
+            NumberRead::Value((65536 - value) as u16)
+        }
+    } else if value > 65535 {
+        NumberRead::Range
+    } else {
+        NumberRead::Value(value as u16)
+    }
+}
+
+/// The number that a token spells in a base: an optional `-` and one or more digits of the base, letters in either case
+/// standing for 10 and more. In a base outside 2 to 36 no token is a number.
+pub fn number_of(text: &str, base: u16) -> NumberRead
+    ensures { result ≡ number_read base text.now }
+{
+    if base < 2 || base > 36 {
+        return NumberRead::NotNumber;
+    }
+    match text.as_bytes().split_first() {
+        Some((byte, tail)) if *byte == b'-' => digits_read(tail, base, true),
+        Some(_) => digits_read(text.as_bytes(), base, false),
+        None => NumberRead::NotNumber,
+    }
+}
