@@ -17,7 +17,8 @@ use Rattle.forth_program.specs.Run.{source_run, steps, first_world, world_of}
 use Rattle.forth_program.specs.Price.{price, spent}
 use Rattle.j1_workbench.specs.SourceText.{printing, program_printing}
 use Rattle.j1_workbench.specs.Layout.{laid_out, header, code_of}
-use Rattle.j1_workbench.specs.Headline.{chip_end, word_steps, Agrees}
+use Rattle.word_laws.specs.Standing.{machine_end}
+use Rattle.j1_workbench.specs.Headline.{word_steps, Agrees}
 use Rattle.j1_workbench.specs.HeadlineLaw.{PrintingAgrees}
 use Rattle.j1_workbench.proofs.PrintingImage.{main_of, cells_printing, stands, space_after}
 use Rattle.j1_workbench.proofs.Fetching.{Stand}
@@ -82,7 +83,7 @@ module _ (p : SourceProgram) (image : Content) (input values memory space : List
     prints_no_less = λ k. prefix_at (k / 2) (price p input k / 4) values _ _ (source k).prints (machine (price p input k)).prints (let enough = paid k in omega (arith, enough));
     ends_no_later = λ k end e.
         let h = (source k).ends_only end e in
-        (By (chip.Halted 0), (machine (price p input k)).halts (paid_to_end k h.1), ap chip_end h.0);
+        (By (chip.Halted 0), (machine (price p input k)).halts (paid_to_end k h.1), ap machine_end h.0);
     ends_alike = λ n k stop end e f. (
       printed_whole n k ((machine n).halts_only stop e).1 ((source k).ends_only end f).1,
       (machine n).keeps_input ∙ sym (source k).keeps_input,

@@ -9,7 +9,7 @@ use Rattle.j1_simulator.specs.Effect.{following}
 use Rattle.j1_simulator.specs.Step.{Stop, By}
 use Rattle.j1_simulator.specs.RoundMachine.{RingCells, round_storage}
 use Rattle.j1_simulator.specs.Run.{Configuration, run, advanced, advance}
-use Rattle.j1_workbench.specs.Headline.{StaysWithin}
+use Rattle.j1_workbench.specs.Headline.{DepthStaysWithin}
 use Rattle.j1_workbench.specs.Layout.{header}
 use Rattle.j1_workbench.proofs.Fetching.{Stand}
 use Rattle.j1_workbench.proofs.PrintingImage.{main_of}
@@ -33,8 +33,8 @@ pub record Shown (input memory values printed : List ℕ) (n : ℕ) (c : Configu
   pub keeps_memory : c.core.memory ≡ memory
   pub halts : 4 * length values + 5 ≤ n → c.stop ≡ Some (By (Halted 0))
   pub halts_only : (stop : Stop) → c.stop ≡ Some stop → (stop ≡ By (Halted 0)) × (4 * length values + 5 ≤ n)
-  pub data_depth : StaysWithin 33 c.data_depth
-  pub return_depth : StaysWithin 32 c.return_depth
+  pub data_depth : DepthStaysWithin 33 c.data_depth
+  pub return_depth : DepthStaysWithin 32 c.return_depth
 
 -- 4 instructions more, one value more
 turns : (n : ℕ) → suc (n / 4) ≡ suc (suc (suc (suc n))) / 4

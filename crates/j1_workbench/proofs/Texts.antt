@@ -8,7 +8,8 @@ use Rattle.std.specs.Str.{bytes_eq, str_eq_ignore_ascii_case}
 use Rattle.forth_program.specs.Program.{SourceProgram, body_of}
 use Rattle.j1_workbench.specs.Numbers.{is_number, number_in, value_from}
 use Rattle.j1_workbench.specs.SourceText.{fields_of, values_of, with_value, few, printing, program_printing, program_of_fields, program_of_text}
-use Rattle.j1_workbench.specs.Layout.{is_straight, code_of, number_cells}
+use Rattle.word_laws.specs.Numbers.{number_cells}
+use Rattle.j1_workbench.specs.Layout.{is_straight, code_of}
 
 -- a program that prints at most 479 bytes
 pub record IsPrinting (program : SourceProgram) : Type 0 where

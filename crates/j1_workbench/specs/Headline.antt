@@ -1,43 +1,35 @@
 -- What the run of an image on the chip has to do with the meaning of its source.
-use Rattle.std.specs.Prelude.{◌≡◌, ℕ, ◌+◌, ◌*◌, ◌/◌, ◌≤◌, ℤ, pos, List, drop, Option, Some, None}
+use Rattle.std.specs.Prelude.{◌≡◌, ℕ, ◌+◌, ◌*◌, ◌/◌, ◌≤◌, ℤ, pos, List, drop, Some}
 use Rattle.j1_table.specs.Image.{Content}
-use Rattle.j1_simulator.specs.declared.ends.End.TheVariants as chip
-use Rattle.j1_simulator.specs.Step.{Stop, By}
+use Rattle.j1_simulator.specs.Step.{Stop}
 use Rattle.j1_simulator.specs.Run.{round_run, IsPrefixOf}
-use Rattle.forth_program.specs.State.{End, Halted, InputEnded, Outside, Underflow, Unbalanced}
+use Rattle.forth_program.specs.State.{End}
 use Rattle.forth_program.specs.Program.{SourceProgram}
 use Rattle.forth_program.specs.Run.{source_run, world_of, end_of}
 use Rattle.forth_program.specs.Price.{price}
-
--- the chip's end for an end of the source; the chip has none for a lack of cells or of return entries
-abbrev pub chip_end : End → Option Stop
-chip_end (Halted status) = Some (By (chip.Halted status))
-chip_end InputEnded = Some (By chip.InputEnded)
-chip_end (Outside address) = Some (By (chip.Outside address))
-chip_end Underflow = None
-chip_end Unbalanced = None
+use Rattle.word_laws.specs.Standing.{machine_end}
 
 -- so many word steps of the source do at least what n instructions of its image do
 abbrev pub word_steps : SourceProgram → ℕ → ℕ
 word_steps p n = (n + 1) * (p.source_tokens + 4)
 
 -- a counter stands between 0 and a limit
-abbrev pub StaysWithin : ℕ → ℤ → Type 0
-StaysWithin limit depth = (height : ℕ) × (depth ≡ pos height) × (height ≤ limit)
+abbrev pub DepthStaysWithin : ℕ → ℤ → Type 0
+DepthStaysWithin limit depth = (height : ℕ) × (depth ≡ pos height) × (height ≤ limit)
 
 -- the image prints what the source means, both ways and within stated steps, ends alike, and wraps no stack
 pub record Agrees (p : SourceProgram) (image : Content) (input : List ℕ) : Type 0 where
   -- what n instructions print is a beginning of what the source prints in word_steps p n word steps, and their end is its end
   pub prints_no_more : (n : ℕ) → IsPrefixOf (round_run image input n).printed (world_of (source_run p input (word_steps p n))).printed
-  pub ends_no_sooner : (n : ℕ) (stop : Stop) → (round_run image input n).stop ≡ Some stop → (end : End) × (end_of (source_run p input (word_steps p n)) ≡ Some end) × (chip_end end ≡ Some stop)
+  pub ends_no_sooner : (n : ℕ) (stop : Stop) → (round_run image input n).stop ≡ Some stop → (end : End) × (end_of (source_run p input (word_steps p n)) ≡ Some end) × (machine_end end ≡ Some stop)
   -- what k word steps print is a beginning of what the image prints in as many instructions as their price, and their end is its end
   pub prints_no_less : (k : ℕ) → IsPrefixOf (world_of (source_run p input k)).printed (round_run image input (price p input k)).printed
-  pub ends_no_later : (k : ℕ) (end : End) → end_of (source_run p input k) ≡ Some end → (stop : Stop) × ((round_run image input (price p input k)).stop ≡ Some stop) × (chip_end end ≡ Some stop)
+  pub ends_no_later : (k : ℕ) (end : End) → end_of (source_run p input k) ≡ Some end → (stop : Stop) × ((round_run image input (price p input k)).stop ≡ Some stop) × (machine_end end ≡ Some stop)
   -- where both have ended, the prints, the input left and data space are equal
   pub ends_alike : (n k : ℕ) (stop : Stop) (end : End) → (round_run image input n).stop ≡ Some stop → end_of (source_run p input k) ≡ Some end →
       ((round_run image input n).printed ≡ (world_of (source_run p input k)).printed)
       × ((round_run image input n).input ≡ (world_of (source_run p input k)).input)
       × (drop (image.data_start / 2) (round_run image input n).core.memory ≡ (world_of (source_run p input k)).space)
   -- the data stack holds at most 33 cells and the return stack at most 32, before and after each instruction
-  pub data_stack_holds : (n : ℕ) → StaysWithin 33 (round_run image input n).data_depth
-  pub return_stack_holds : (n : ℕ) → StaysWithin 32 (round_run image input n).return_depth
+  pub data_stack_holds : (n : ℕ) → DepthStaysWithin 33 (round_run image input n).data_depth
+  pub return_stack_holds : (n : ℕ) → DepthStaysWithin 32 (round_run image input n).return_depth

@@ -1,15 +1,11 @@
 -- The image of a program whose MAIN is a straight line of numbers and inline words.
-use Rattle.std.specs.Prelude.{ℕ, ◌+◌, ◌-◌, List, [], ◌∷◌, ◌++◌, nat_lt, Bool, true, false, if◌then◌else◌}
-use Rattle.word_table.specs.declared.word.Class.{Class}
-use Rattle.word_table.specs.declared.word.Class.TheVariants as class
+use Rattle.std.specs.Prelude.{ℕ, List, [], ◌∷◌, ◌++◌, Bool, true, false, if◌then◌else◌}
 use Rattle.word_table.specs.Table.{entry_of, cells_of}
 use Rattle.forth_program.specs.Tree.{Node, Nodes, Literal, Plain, Empty, Then}
 use Rattle.forth_program.specs.Program.{SourceProgram, body_of}
 use Rattle.j1_table.specs.Image.{Content}
-
-abbrev pub is_inline : Class → Bool
-is_inline class.Inline = true
-is_inline kind = false
+use Rattle.word_laws.specs.Words.{is_inline}
+use Rattle.word_laws.specs.Numbers.{number_cells}
 
 -- a number or an inline word
 abbrev pub is_plain : Node → Bool
@@ -20,10 +16,6 @@ is_plain node = false
 abbrev pub is_straight : Nodes → Bool
 is_straight Empty = true
 is_straight (Then node rest) = if is_plain node then is_straight rest else false
-
--- a number below 0x8000 is a literal; a greater one is its complement, which is then inverted
-abbrev pub number_cells : ℕ → List ℕ
-number_cells value = if nat_lt value 0x8000 then (0x8000 + value) ∷ [] else (0x8000 + (0xffff - value)) ∷ 0x6600 ∷ []
 
 abbrev pub item_cells : Node → List ℕ
 item_cells (Literal value) = number_cells value

@@ -2,7 +2,8 @@
 ghost use Rattle.std.specs.Prelude.{◌≡◌, ◌≤◌, ◌∷◌, ◌++◌, [], length, IfOk, OnOk, IsTrue};
 ghost use Rattle.forth_program.specs.ItemTrees.{node_of, nodes_of};
 ghost use Rattle.forth_program.specs.Program.{body_of};
-ghost use Rattle.j1_workbench.specs.Layout.{is_plain, is_straight, number_cells, item_cells, code_of, header, laid_out};
+ghost use Rattle.word_laws.specs.Numbers.{number_cells};
+ghost use Rattle.j1_workbench.specs.Layout.{is_plain, is_straight, item_cells, code_of, header, laid_out};
 
 use forth_program::{Item, Program};
 use j1_table::Image;

@@ -1,0 +1,108 @@
+-- One instruction of control from where the machine stands.
+use Rattle.std.proofs.Common.{[], true, ◌≡◌, ℕ, suc, ◌+◌, ◌*◌, ◌/◌, ◌%◌, ⊎_elim, false, ◌==◌, if◌then◌else◌, List, ◌∷◌, length, Option, Some, None, ℤ, pos, negsuc, ◌+ℤ◌, refl, sym, ap, ◌∙◌, subst, arith}
+use Rattle.std.proofs.lemmas.Bool.Decides.{eqb_tells}
+use Rattle.j1_table.specs.declared.instr.Instr.{Instr}
+use Rattle.j1_table.specs.declared.instr.Instr.TheVariants.{Jump, Branch, Call}
+use Rattle.j1_table.specs.Instruction.{decoded}
+use Rattle.forth_program.specs.State.{World, Halted, Ends}
+use Rattle.std.specs.Prelude.{map}
+use Rattle.j1_simulator.specs.declared.ends.End.TheVariants as chip
+use Rattle.j1_simulator.specs.Run.{run}
+use Rattle.j1_simulator.specs.Effect.{effect, following}
+use Rattle.j1_simulator.specs.Step.{By, effect_at}
+use Rattle.j1_simulator.specs.OpenMachine.{first, rest, open_storage}
+use Rattle.j1_simulator.specs.Run.{made}
+use Rattle.word_laws.specs.Rings.{OpenConfiguration, WritesAbove, writes_return}
+use Rattle.word_laws.specs.Standing.{data_places, return_places, standing, counted, standing_as, EndedIn}
+use Rattle.word_laws.specs.Control.{Holds, LeadsTo, JumpLeads, CallLeads, ReturnLeads, BranchLeads, BranchPasses, halt_cells, HaltEnds}
+use Rattle.word_laws.proofs.Steps.{effect_here}
+use Rattle.word_laws.proofs.Heights.{counter_moves}
+use Rattle.word_laws.proofs.Rows.{feed}
+use Rattle.word_laws.proofs.Running.{height_places, height_length, has_all, row_comes, row_stays, row_ends, within_widens, each_widens}
+
+-- an instruction of a known effect
+leads : (data_start : ℕ) (i : Instr) (pc : ℕ) (code c : List ℕ) (r da ra : List (Option ℕ)) (o : World) (to : OpenConfiguration) → Holds code pc i →
+    made None open_storage data_start (effect pc i) (counted code pc c r da ra o) ≡ to → WritesAbove (effect pc i).data_move (effect pc i).t_to_n → WritesAbove (effect pc i).return_move (writes_return (effect pc i).return_write) →
+    LeadsTo data_start (length c) (length r) (counted code pc c r da ra o) to
+leads data_start i pc code c r da ra o to has e cd cb =
+    let same : effect_at (counted code pc c r da ra o).core ≡ effect pc i = effect_here code (counted code pc c r da ra o) i (o.space, refl) has.0 has.1 in
+    record {
+      makes = ap (λ f. made None open_storage data_start f (counted code pc c r da ra o)) same ∙ e;
+      bounds = (
+        record {
+          depth = length c;
+          return_depth = length r;
+          depth_is = refl;
+          return_depth_is = refl;
+          at_least = omega arith;
+          at_most = omega arith;
+          return_at_least = omega arith;
+          return_at_most = omega arith;
+          known = height_places c;
+          return_known = height_length r;
+          data_writes = λ n. subst (λ f. WritesAbove f.data_move f.t_to_n) (sym same) cd;
+          return_writes = λ n. subst (λ f. WritesAbove f.return_move (writes_return f.return_write)) (sym same) cb;
+        },
+        tt,
+      );
+    }
+
+-- counters under their names
+named : (code : List ℕ) (pc : ℕ) (c : List ℕ) (r da ra : List (Option ℕ)) (d b : ℤ) (o : World) → d ≡ pos (length c) → b ≡ pos (length r) → standing code pc c r da ra d b o ≡ counted code pc c r da ra o
+named code pc c r da ra d b o e f = ap (λ z. standing code pc c r da ra z b o) e ∙ ap (λ z. standing code pc c r da ra (pos (length c)) z o) f
+
+still : (n : ℕ) → pos n +ℤ pos 0 ≡ pos n
+still n = ap pos (omega arith)
+
+up_one : (n : ℕ) → pos n +ℤ pos 1 ≡ pos (suc n)
+up_one n = ap pos (omega arith)
+
+down_one : (n : ℕ) → pos (suc n) +ℤ negsuc 0 ≡ pos n
+down_one n = let e : suc n ≡ n + 1 = omega arith in let f : n + 0 ≡ n = omega arith in ap (λ z. pos z +ℤ negsuc 0) e ∙ counter_moves (negsuc 0) n 1 0 refl ∙ ap pos f
+
+pub jump_leads : JumpLeads
+jump_leads data_start target pc code c r da ra o has =
+    leads data_start (Jump target) pc code c r da ra o _ has (named code target c r da ra _ _ o (still (length c)) (still (length r))) tt tt
+
+pub call_leads : CallLeads
+call_leads data_start target pc code c r da ra o has =
+    leads data_start (Call target) pc code c r da ra o _ has (named code target c (Some (2 * following pc) ∷ r) da (rest ra) _ _ o (still (length c)) (up_one (length r))) tt refl
+
+pub return_leads : ReturnLeads
+return_leads data_start address pc code c r da ra o has =
+    leads data_start (decoded 0x700C) pc code c (Some address ∷ r) da ra o _ has (named code (address / 2 % 0x2000) c r da (Some address ∷ ra) _ _ o (still (length c)) (down_one (length r))) tt tt
+
+pub branch_leads : BranchLeads
+branch_leads data_start target pc code c r da ra o has =
+    leads data_start (Branch target) pc code (0 ∷ c) r da ra o _ has (named code target c r (first (data_places c) ∷ da) ra _ _ o (down_one (length c)) (still (length r))) tt tt
+
+pub branch_passes : BranchPasses
+branch_passes data_start target pc n code c r da ra o has =
+    leads data_start (Branch target) pc code (suc n ∷ c) r da ra o _ has
+    (ap (λ b. standing code (if b then target else following pc) c r (first (data_places c) ∷ da) ra (pos (suc (length c)) +ℤ negsuc 0) (pos (length r) +ℤ pos 0) o) (not_zero n)
+    ∙ named code (following pc) c r (first (data_places c) ∷ da) ra _ _ o (down_one (length c)) (still (length r))) tt tt
+  where
+    not_zero : (v : ℕ) → (suc v == 0) ≡ false
+    not_zero v = ⊎_elim (λ t. absurd (omega (arith, t.1))) (λ t. t.0) (eqb_tells (suc v) 0)
+
+halt_row : (data_start : ℕ) (code : List ℕ) (pc : ℕ) (c : List ℕ) (r da ra : List (Option ℕ)) (d b : ℤ) (o : World) → EndedIn (feed data_start (map decoded halt_cells) (standing code pc c r da ra d b o)) code (By (chip.Halted 0)) o
+halt_row data_start code pc [] r da ra d b o = record { stop_is = refl; memory = refl; input = refl; printed = refl }
+halt_row data_start code pc (x ∷ c) r da ra d b o = record { stop_is = refl; memory = refl; input = refl; printed = refl }
+
+nothing_more : (n : ℕ) → n ≡ n + 0
+nothing_more n = omega arith
+
+pub halt_ends : HaltEnds
+halt_ends code pc next s base da ra size stand =
+    let r = return_places s.entries base in
+    let has = has_all code halt_cells pc next stand in
+    let c = nothing_more (length s.cells) in
+    let b = nothing_more (length (return_places s.entries base)) in
+    let come = row_comes s.world.data_start code size true (map decoded halt_cells) pc next s.cells r base da ra s.world (length s.cells) 0 (length r) 0 2 0 (Ends (Halted 0) s.world) c b refl has
+    (halt_row s.world.data_start code pc s.cells r da ra (pos (length s.cells)) (pos (length r)) s.world) (By (chip.Halted 0), refl) in (
+      come,
+      each_widens s.world.data_start _ _ _ _ _ _ _ _ 3 (standing_as s code pc base da ra) (omega arith) (omega arith) (omega arith) (omega arith)
+          (row_stays s.world.data_start code size true (map decoded halt_cells) pc next s.cells r da ra s.world (length s.cells) 0 (length r) 0 2 0 c b refl has),
+      within_widens _ _ _ _ _ _ _ _ (omega arith) (omega arith) (omega arith) (omega arith) (run open_storage s.world.data_start 3 (standing_as s code pc base da ra))
+          (row_ends s.world.data_start code size true refl (map decoded halt_cells) pc next s.cells r da ra s.world (length s.cells) 0 (length r) 0 2 0 come.0 c b refl has come.2.stop_is),
+    )

@@ -1,0 +1,101 @@
+-- Words that stand in code do their meaning and keep their bounds.
+use Rattle.std.proofs.Common.{◌∙◌, ◌≡◌, ℕ, suc, ◌+◌, ◌-◌, ◌≤◌, true, false, List, [], ◌∷◌, length, Option, pos, refl, ap, subst, arith}
+use Rattle.std.specs.Prelude.{map}
+use Rattle.j1_table.specs.Instruction.{decoded}
+use Rattle.word_table.specs.declared.word.Word.{Word}
+use Rattle.word_table.specs.declared.word.Word.TheVariants.{RFrom, RFetch, Index, OuterIndex, Unloop}
+use Rattle.word_table.specs.Table.{entry_of, cells_of}
+use Rattle.forth_program.specs.State.{Entry, Cell, Loop, Halted, InputEnded, Outside, Underflow, Unbalanced, Outcome, Goes, Ends}
+use Rattle.forth_program.specs.Step.{word_step}
+use Rattle.j1_simulator.specs.OpenMachine.{open_storage}
+use Rattle.j1_simulator.specs.Run.{run}
+use Rattle.word_laws.specs.Rings.{BeforeEach}
+use Rattle.word_laws.specs.Bounds.{StaysWithin}
+use Rattle.word_laws.specs.Standing.{return_places, standing_as, HasCome}
+use Rattle.word_laws.specs.Words.{stands_plain, finds_entries, return_need, lacks, WordsDoTheirMeaning, WordsKeepTheirBounds, WordsEndWithinBounds}
+use Rattle.word_laws.proofs.Rows.{instructions_of, when}
+use Rattle.word_laws.proofs.Walk.{word_stays}
+use Rattle.word_laws.proofs.WordWalks.{words_stay, ends_stay}
+use Rattle.word_laws.proofs.WordRows.{word_row, Row}
+use Rattle.word_laws.proofs.Needs.{finds}
+use Rattle.word_laws.proofs.Running.{MayEnd, has_all, row_comes, row_stays, row_ends, within_widens, each_widens}
+
+-- an end for another cause than a lack
+may_end : (x : Outcome) → lacks x ≡ false → MayEnd x
+may_end (Goes s) e = tt
+may_end (Ends (Halted status) world) e = (_, refl)
+may_end (Ends InputEnded world) e = (_, refl)
+may_end (Ends (Outside address) world) e = (_, refl)
+may_end (Ends Underflow world) e = let no : ⊥ = cc in absurd no
+may_end (Ends Unbalanced world) e = let no : ⊥ = cc in absurd no
+
+-- entries that are found have their places
+return_places_found : (word : Word) (es : List Entry) (base : List (Option ℕ)) → finds_entries word es ≡ true → return_need word ≤ length (return_places es base)
+return_places_found RFrom (Cell x ∷ es) base e = omega arith
+return_places_found RFrom [] base e = let no : ⊥ = cc in absurd no
+return_places_found RFrom (Loop l i ∷ es) base e = let no : ⊥ = cc in absurd no
+return_places_found RFetch (Cell x ∷ es) base e = omega arith
+return_places_found RFetch [] base e = let no : ⊥ = cc in absurd no
+return_places_found RFetch (Loop l i ∷ es) base e = let no : ⊥ = cc in absurd no
+return_places_found Index (Loop l i ∷ es) base e = omega arith
+return_places_found Index [] base e = let no : ⊥ = cc in absurd no
+return_places_found Index (Cell x ∷ es) base e = let no : ⊥ = cc in absurd no
+return_places_found Unloop (Loop l i ∷ es) base e = omega arith
+return_places_found Unloop [] base e = let no : ⊥ = cc in absurd no
+return_places_found Unloop (Cell x ∷ es) base e = let no : ⊥ = cc in absurd no
+return_places_found OuterIndex (Loop l i ∷ Loop m j ∷ es) base e = omega arith
+return_places_found OuterIndex [] base e = let no : ⊥ = cc in absurd no
+return_places_found OuterIndex (Cell x ∷ es) base e = let no : ⊥ = cc in absurd no
+return_places_found OuterIndex (Loop l i ∷ []) base e = let no : ⊥ = cc in absurd no
+return_places_found OuterIndex (Loop l i ∷ Cell x ∷ es) base e = let no : ⊥ = cc in absurd no
+return_places_found word es base e = omega arith
+
+as_many : (cells : List ℕ) → length (map decoded cells) ≡ length cells
+as_many [] = refl
+as_many (cell ∷ cells) = ap suc (as_many cells)
+
+parts : (k n : ℕ) → k ≤ n → n ≡ (n - k) + k
+parts k n h = omega arith
+
+pub words_do_their_meaning : WordsDoTheirMeaning
+words_do_their_meaning p word code pc next s base da ra r =
+    subst (λ n. HasCome code next base (run open_storage s.world.data_start n (standing_as s code pc base da ra)) (word_step p word s.cells s.entries s)) (as_many (cells_of word))
+    (row_comes s.world.data_start code r.code_size false (instructions_of word) pc next s.cells (return_places s.entries base) base da ra s.world
+    (length s.cells - (entry_of word).need) (entry_of word).need (length (return_places s.entries base) - return_need word) (return_need word)
+    ((entry_of word).need + (entry_of word).peak) (return_need word + (entry_of word).back) (word_step p word s.cells s.entries s)
+    (parts (entry_of word).need (length s.cells) r.need)
+    (parts (return_need word) (length (return_places s.entries base)) (return_places_found word s.entries base r.finds))
+    (when (stands_plain word) (word_stays false word ≡ true) r.plain (words_stay word))
+    (has_all code (cells_of word) pc next r.in_code)
+    (when (stands_plain word) (Row p s.work s.callers s.world code r.code_size base pc da ra (pos (length s.cells)) (pos (length (return_places s.entries base))) word s.cells s.entries) r.plain
+    (word_row p s.work s.callers s.world code r.code_size base pc da ra (pos (length s.cells)) (pos (length (return_places s.entries base))) word s.cells s.entries refl r.cells r.entries r.applies))
+    (may_end (word_step p word s.cells s.entries s)
+    (when (stands_plain word) (lacks (word_step p word s.cells s.entries s) ≡ false) r.plain (finds p s word s.cells s.entries r.need r.finds))))
+
+pub words_keep_their_bounds : WordsKeepTheirBounds
+words_keep_their_bounds word code pc next s base da ra r =
+    let c = parts (entry_of word).need (length s.cells) r.need in
+    let b = parts (return_need word) (length (return_places s.entries base)) (return_places_found word s.entries base r.finds) in
+    subst (λ n. BeforeEach (StaysWithin (length s.cells - (entry_of word).need) (length s.cells + (entry_of word).peak) (length (return_places s.entries base) - return_need word) (length (return_places s.entries base) + (entry_of word).back)) s.world.data_start n (standing_as s code pc base da ra)) (as_many (cells_of word))
+    (each_widens s.world.data_start _ _ _ _ _ _ _ _ (length (instructions_of word)) (standing_as s code pc base da ra) (omega arith) (omega (arith, c)) (omega arith) (omega (arith, b))
+    (row_stays s.world.data_start code r.code_size false (instructions_of word) pc next s.cells (return_places s.entries base) da ra s.world
+    (length s.cells - (entry_of word).need) (entry_of word).need (length (return_places s.entries base) - return_need word) (return_need word)
+    ((entry_of word).need + (entry_of word).peak) (return_need word + (entry_of word).back) c b
+    (when (stands_plain word) (word_stays false word ≡ true) r.plain (words_stay word))
+    (has_all code (cells_of word) pc next r.in_code)))
+
+pub words_end_within_bounds : WordsEndWithinBounds
+words_end_within_bounds p word code pc next s base da ra end world r ends =
+    let c = parts (entry_of word).need (length s.cells) r.need in
+    let b = parts (return_need word) (length (return_places s.entries base)) (return_places_found word s.entries base r.finds) in
+    let has = has_all code (cells_of word) pc next r.in_code in
+    let w = standing_as s code pc base da ra in
+    let come = subst (HasCome code next base (run open_storage s.world.data_start (length (cells_of word)) w)) ends (words_do_their_meaning p word code pc next s base da ra r) in
+    let many = as_many (cells_of word) in
+    subst (λ n. StaysWithin (length s.cells - (entry_of word).need) (length s.cells + (entry_of word).peak) (length (return_places s.entries base) - return_need word) (length (return_places s.entries base) + (entry_of word).back) (run open_storage s.world.data_start n w)) many
+    (within_widens _ _ _ _ _ _ _ _ (omega arith) (omega (arith, c)) (omega arith) (omega (arith, b)) (run open_storage s.world.data_start (length (instructions_of word)) w)
+    (row_ends s.world.data_start code r.code_size true refl (instructions_of word) pc next s.cells (return_places s.entries base) da ra s.world
+    (length s.cells - (entry_of word).need) (entry_of word).need (length (return_places s.entries base) - return_need word) (return_need word)
+    ((entry_of word).need + (entry_of word).peak) (return_need word + (entry_of word).back) come.0 c b
+    (when (stands_plain word) (word_stays true word ≡ true) r.plain (ends_stay p s word s.cells s.entries end world r.need ends))
+    has (ap (λ n. (run open_storage s.world.data_start n w).stop) many ∙ come.2.stop_is)))

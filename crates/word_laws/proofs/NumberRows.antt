@@ -1,0 +1,83 @@
+-- The cells of a number do what it means and keep its bounds.
+use Rattle.std.proofs.Common.{◌≡◌, ℕ, ◌+◌, ◌-◌, ◌<◌, ◌≤◌, Bool, true, false, nat_lt, List, [], ◌∷◌, length, Option, ℤ, pos, ◌+ℤ◌, refl, ap, ◌∙◌, subst, arith}
+use Rattle.std.specs.Prelude.{if◌then◌else◌}
+use Rattle.std.proofs.lemmas.Bool.{le-ltb}
+use Rattle.j1_table.specs.declared.instr.Instr.{Instr}
+use Rattle.j1_table.specs.declared.instr.Instr.TheVariants.{Literal}
+use Rattle.j1_table.specs.Instruction.{decoded}
+use Rattle.forth_program.specs.State.{World}
+use Rattle.forth_program.specs.Step.{IsLiteral, act}
+use Rattle.j1_simulator.specs.Effect.{following}
+use Rattle.j1_simulator.specs.OpenMachine.{rest, open_storage}
+use Rattle.j1_simulator.specs.Run.{run}
+use Rattle.word_laws.specs.Rings.{BeforeEach}
+use Rattle.word_laws.specs.Bounds.{StaysWithin}
+use Rattle.word_laws.specs.Standing.{return_places, standing, standing_as, HasCome, StandIn}
+use Rattle.word_laws.specs.Numbers.{NumbersDoTheirMeaning, NumbersKeepTheirBounds}
+use Rattle.word_laws.proofs.Rows.{feed, past, data_past, return_past, HasAll}
+use Rattle.word_laws.proofs.Walk.{stays}
+use Rattle.word_laws.proofs.Running.{row_comes, row_stays, each_widens}
+
+-- a cell from 0x8000 on is a literal
+literal_of : (value : ℕ) → decoded (0x8000 + value) ≡ Literal value
+literal_of value =
+    let a : nat_lt (0x8000 + value) 0x2000 ≡ false = not_below value 0x2000 (omega arith) in
+    let b : nat_lt (0x8000 + value) 0x4000 ≡ false = not_below value 0x4000 (omega arith) in
+    let c : nat_lt (0x8000 + value) 0x6000 ≡ false = not_below value 0x6000 (omega arith) in
+    let d : nat_lt (0x8000 + value) 0x8000 ≡ false = not_below value 0x8000 (omega arith) in
+    let e : (0x8000 + value) - 0x8000 ≡ value = omega arith in
+    rw (a, b, c, d, e) refl
+  where
+    not_below : (value limit : ℕ) → limit ≤ 0x8000 → nat_lt (0x8000 + value) limit ≡ false
+    not_below value limit h = le-ltb (0x8000 + value) limit (omega arith)
+
+-- the instructions of a number, by its size
+abbrev number_instructions : Bool → ℕ → List Instr
+number_instructions true value = Literal value ∷ []
+number_instructions false value = Literal (0xffff - value) ∷ decoded 0x6600 ∷ []
+
+number_walk : (small : Bool) (value : ℕ) → stays false 1 0 (number_instructions small value) 0 0 0 0 ≡ true
+number_walk true value = refl
+number_walk false value = refl
+
+number_has_all : (small : Bool) (value : ℕ) (code : List ℕ) (pc q : ℕ) → StandIn code pc (if small then (0x8000 + value) ∷ [] else (0x8000 + (0xffff - value)) ∷ 0x6600 ∷ []) q → HasAll code pc (number_instructions small value) q
+number_has_all true value code pc q h = ((ap decoded h.0 ∙ literal_of value, h.1), h.2)
+number_has_all false value code pc q h = ((ap decoded h.0 ∙ literal_of (0xffff - value), h.1), ((ap decoded h.2.0, h.2.1), h.2.2))
+
+number_size : (small : Bool) (value : ℕ) → length (number_instructions small value) ≡ length (if small then (0x8000 + value) ∷ [] else (0x8000 + (0xffff - value)) ∷ 0x6600 ∷ [])
+number_size true value = refl
+number_size false value = refl
+
+inverted_twice : (value : ℕ) → value < 0x10000 → 0xffff - (0xffff - value) ≡ value
+inverted_twice value h = omega arith
+
+-- a number on the data cells
+number_row : (small : Bool) (value : ℕ) → value < 0x10000 → (data_start : ℕ) (code : List ℕ) (pc : ℕ) (c : List ℕ) (r da ra : List (Option ℕ)) (d b : ℤ) (o : World) →
+    (da' : List (Option ℕ)) × (ra' : List (Option ℕ)) × (feed data_start (number_instructions small value) (standing code pc c r da ra d b o) ≡ standing code (past pc (number_instructions small value)) (value ∷ c) r da' ra' (data_past d (number_instructions small value)) (return_past b (number_instructions small value)) o)
+number_row true value h data_start code pc [] r da ra d b o = (_, _, refl)
+number_row true value h data_start code pc (y ∷ c) r da ra d b o = (_, _, refl)
+number_row false value h data_start code pc [] r da ra d b o =
+    (rest da, ra, ap (λ x. standing code (following (following pc)) (x ∷ []) r (rest da) ra (d +ℤ pos 1 +ℤ pos 0) (b +ℤ pos 0 +ℤ pos 0) o) (inverted_twice value h))
+number_row false value h data_start code pc (y ∷ c) r da ra d b o =
+    (rest da, ra, ap (λ x. standing code (following (following pc)) (x ∷ y ∷ c) r (rest da) ra (d +ℤ pos 1 +ℤ pos 0) (b +ℤ pos 0 +ℤ pos 0) o) (inverted_twice value h))
+
+nothing_more : (n : ℕ) → n ≡ n + 0
+nothing_more n = omega arith
+
+pub numbers_do_their_meaning : NumbersDoTheirMeaning
+numbers_do_their_meaning p after value code pc next s base da ra r =
+    let small = nat_lt value 0x8000 in
+    subst (λ n. HasCome code next base (run open_storage s.world.data_start n (standing_as s code pc base da ra)) (act p (IsLiteral value after) s)) (number_size small value)
+    (row_comes s.world.data_start code r.code_size false (number_instructions small value) pc next s.cells (return_places s.entries base) base da ra s.world
+    (length s.cells) 0 (length (return_places s.entries base)) 0 1 0 (act p (IsLiteral value after) s)
+    (nothing_more (length s.cells)) (nothing_more (length (return_places s.entries base))) (number_walk small value) (number_has_all small value code pc next r.in_code)
+    (number_row small value r.is_cell s.world.data_start code pc s.cells (return_places s.entries base) da ra (pos (length s.cells)) (pos (length (return_places s.entries base))) s.world) tt)
+
+pub numbers_keep_their_bounds : NumbersKeepTheirBounds
+numbers_keep_their_bounds value code pc next s base da ra r =
+    let small = nat_lt value 0x8000 in
+    subst (λ n. BeforeEach (StaysWithin (length s.cells) (length s.cells + 1) (length (return_places s.entries base)) (length (return_places s.entries base))) s.world.data_start n (standing_as s code pc base da ra)) (number_size small value)
+    (each_widens s.world.data_start _ _ _ _ _ _ _ _ (length (number_instructions small value)) (standing_as s code pc base da ra) (omega arith) (omega arith) (omega arith) (omega arith)
+    (row_stays s.world.data_start code r.code_size false (number_instructions small value) pc next s.cells (return_places s.entries base) da ra s.world
+    (length s.cells) 0 (length (return_places s.entries base)) 0 1 0
+    (nothing_more (length s.cells)) (nothing_more (length (return_places s.entries base))) (number_walk small value) (number_has_all small value code pc next r.in_code)))

@@ -1,0 +1,62 @@
+-- Instructions in a row, wherever they stand.
+use Rattle.std.specs.Prelude.{ℕ, ◌≡◌, Bool, true, false, List, [], ◌∷◌, map, ℤ, ◌+ℤ◌, Option, Some, None}
+use Rattle.j1_table.specs.declared.instr.Instr.{Instr}
+use Rattle.j1_table.specs.Instruction.{decoded}
+use Rattle.word_table.specs.declared.word.Word.{Word}
+use Rattle.word_table.specs.Table.{cells_of}
+use Rattle.forth_program.specs.State.{World, Outcome, Goes, Ends}
+use Rattle.j1_simulator.specs.Effect.{effect, following}
+use Rattle.j1_simulator.specs.Step.{Stop}
+use Rattle.j1_simulator.specs.OpenMachine.{open_storage}
+use Rattle.j1_simulator.specs.Run.{made}
+use Rattle.word_laws.specs.Rings.{OpenConfiguration}
+use Rattle.word_laws.specs.Control.{Holds}
+use Rattle.word_laws.specs.Standing.{return_places, standing, machine_end, EndedIn}
+
+abbrev pub instructions_of : Word → List Instr
+instructions_of word = map decoded (cells_of word)
+
+-- each instruction by its effect, without its fetch
+abbrev pub feed : ℕ → List Instr → OpenConfiguration → OpenConfiguration
+feed data_start [] w = w
+feed data_start (i ∷ is) w = feed data_start is (made w.stop open_storage data_start (effect w.core.pc i) w)
+
+-- the place after a row, and both counters
+abbrev pub past : ℕ → List Instr → ℕ
+past pc [] = pc
+past pc (i ∷ is) = past (following pc) is
+
+abbrev pub data_past : ℤ → List Instr → ℤ
+data_past d [] = d
+data_past d (i ∷ is) = data_past (d +ℤ (effect 0 i).data_move) is
+
+abbrev pub return_past : ℤ → List Instr → ℤ
+return_past b [] = b
+return_past b (i ∷ is) = return_past (b +ℤ (effect 0 i).return_move) is
+
+-- these instructions stand in code from one place to another
+abbrev pub HasAll : List ℕ → ℕ → List Instr → ℕ → Type 0
+HasAll code pc [] q = pc ≡ q
+HasAll code pc (i ∷ is) q = Holds code pc i × HasAll code (following pc) is q
+
+-- what is owed only where a test holds
+abbrev pub When : Bool → Type 0 → Type 0
+When true P = P
+When false P = Unit {0}
+
+pub when : (b : Bool) (P : Type 0) → b ≡ true → When b P → P
+when true P e h = h
+when false P e h = absurd (no e)
+  where
+    no : false ≡ true → ⊥
+    no e = cc
+
+abbrev pub RowEnds : OpenConfiguration → List ℕ → Option Stop → World → Type 0
+RowEnds w code (Some stop) world = EndedIn w code stop world
+RowEnds w code None world = Unit {0}
+
+-- a machine has come to what is meant, at this place and with these counters; of a lack nothing is said
+abbrev pub RowMeans : List ℕ → ℕ → List (Option ℕ) → ℤ → ℤ → OpenConfiguration → Outcome → Type 0
+RowMeans code q base d b w (Goes s) =
+    (da : List (Option ℕ)) × (ra : List (Option ℕ)) × (w ≡ standing code q s.cells (return_places s.entries base) da ra d b s.world)
+RowMeans code q base d b w (Ends end world) = RowEnds w code (machine_end end) world

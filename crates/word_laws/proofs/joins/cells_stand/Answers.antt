@@ -1,0 +1,5 @@
+use Rattle.word_laws.proofs.Joining as law
+use Rattle.word_laws.proofs.joins.cells_stand.Goals as goal
+
+pub returns : goal.returns
+returns c = law.cells_stand

@@ -1,0 +1,5 @@
+use Rattle.word_laws.proofs.Leaving as law
+use Rattle.word_laws.proofs.words.words_leave_cells.Goals as goal
+
+pub returns : goal.returns
+returns c = law.words_leave_cells

@@ -1,0 +1,7 @@
+pub mod Rings
+pub mod Standing
+pub mod Cells
+pub mod Bounds
+pub mod Words
+pub mod Numbers
+pub mod Control
