@@ -1,0 +1,5 @@
+pub mod Examples
+pub mod Growing
+pub mod Fitting
+pub mod OneDefinition
+pub mod Judged

@@ -1,0 +1,41 @@
+-- Places of a source text, and what reading from one gives.
+use Rattle.std.specs.Prelude.{ℕ, ◌+◌, nat_le, true, false, List}
+use Rattle.forth_reader.specs.declared.refusal.ReadCause.{ReadCause}
+use Rattle.forth_reader.specs.declared.refusal.ReadCause.TheVariants as read
+use Rattle.control_flow.specs.declared.refusal.SourceCause.{SourceCause}
+use Rattle.control_flow.specs.declared.refusal.SourceCause.TheVariants as cause
+
+-- the bytes that are left, the number of tokens before them, comments too, and the sum of the weights so far
+pub record Place : Type 0 where
+  pub rest : List ℕ
+  pub count : ℕ
+  pub weight : ℕ
+
+-- a value; the first refused token with its cause; or a token comes first that is not built yet.
+-- Endless stands for a text that is left when the fuel is spent; with more fuel than bytes it never comes.
+pub data Outcome (A : Type 0) : Type 0 where
+  Fine : (value : A) → Outcome A
+  Refused : (token : ℕ) (cause : SourceCause) → Outcome A
+  NotBuilt : Outcome A
+  Endless : Outcome A
+
+-- goes on with the value, where there is one
+infixl 10 ◌>>=◌
+abbrev pub ◌>>=◌ : {A B : Type 0} → Outcome A → (A → Outcome B) → Outcome B
+(Fine x) >>= f = f x
+(Refused k c) >>= f = Refused k c
+NotBuilt >>= f = NotBuilt
+Endless >>= f = Endless
+
+abbrev pub source_cause : ReadCause → SourceCause
+source_cause read.NotText = cause.NotText
+source_cause read.NameTooLong = cause.NameTooLong
+source_cause read.OpenComment = cause.OpenComment
+source_cause read.OpenString = cause.OpenString
+
+-- the place with a weight more; the sum of all weights is at most 2,400
+abbrev pub weighed : ℕ → Place → Outcome Place
+weighed weight at = elim (nat_le (at.weight + weight) 2400) [
+  | true ↦ Fine (record at { weight = at.weight + weight })
+  | false ↦ Refused at.count cause.CodeFull
+]
