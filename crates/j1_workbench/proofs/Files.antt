@@ -4,7 +4,7 @@ use Rattle.std.proofs.lemmas.Bool.{lt-leb}
 use Rattle.std.proofs.lemmas.Bool.Decides.{nat_tests}
 use Rattle.std.proofs.lemmas.List.{take_all}
 use Rattle.std.specs.Prelude.{Option, Some, None, option_map, if◌then◌else◌, nat_le}
-use Rattle.outside_io.specs.Files.{Files, HasFront}
+use Rattle.outside_io.specs.Files.{Files, HasFront, IsLacking}
 use Rattle.j1_workbench.specs.Words.{Request, Run}
 use Rattle.j1_workbench.specs.SourceText.{fields_of, program_of_fields, program_of_text}
 use Rattle.j1_workbench.specs.Answers.{AsksToRun, HoldsOtherText, text_in}
@@ -44,3 +44,10 @@ holds_other (Some files) name front read none = other_held files name front (fil
 -- the source that is asked for is the source of the command
 pub asked : (request : Option Request) (given source : List ℕ) → request ≡ Some (Run given None) → AsksToRun request source → given ≡ source
 asked request given source is asks = some_same _ _ (subst (λ r. AsksToRun r source) is asks)
+
+-- a folder that lacks a file gives no bytes of it
+pub lacking_gives_none : (files : Option Files) (name front : List ℕ) (most : ℕ) → IsLacking files name → HasFront files name most front → ⊥
+lacking_gives_none None name front most lacking read = lacking
+lacking_gives_none (Some files) name front most lacking read =
+    let none : None ≡ Some front = sym (ap (option_map (take most)) lacking) ∙ read in
+    cc

@@ -3,7 +3,7 @@ use Rattle.std.specs.Prelude.{◌≡◌, ◌⊎◌, ℕ, List, Option, Some, Non
 use Rattle.std.specs.Io.KnownBytes.{Appends}
 use Rattle.outside_io.specs.Bytes.{AppendsFront}
 use Rattle.outside_io.specs.Causes.{Rose}
-use Rattle.outside_io.specs.Files.{Files}
+use Rattle.outside_io.specs.Files.{Files, IsLacking}
 use Rattle.j1_table.specs.Image.{Content}
 use Rattle.j1_simulator.specs.declared.ends.End.{End}
 use Rattle.j1_simulator.specs.declared.ends.Finish.{Finish}
@@ -55,6 +55,14 @@ text_in (Some files) name = files name
 abbrev pub HoldsOtherText : Option Files → List ℕ → Type 0
 HoldsOtherText None name = ⊤
 HoldsOtherText (Some files) name = (text : List ℕ) × (files name ≡ Some text) × (program_of_text text ≡ None)
+
+-- a told folder lacks the file, or holds a text that is not built
+abbrev pub HasNoProgram : Option Files → List ℕ → Type 0
+HasNoProgram files name = IsLacking files name ⊎ ((text : List ℕ) × (text_in files name ≡ Some text) × (program_of_text text ≡ None))
+
+-- nothing is to be run: no command, a command that is not built, or a file without a program that is built
+abbrev pub NeverRuns : Option Files → Option Request → Type 0
+NeverRuns files request = (request ≡ None) ⊎ (AsksForMore request ⊎ ((source : List ℕ) × AsksToRun request source × HasNoProgram files source))
 
 -- the answers of a call that ran an image
 abbrev pub IsRunAnswer : Status → Type 0

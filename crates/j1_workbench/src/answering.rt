@@ -6,7 +6,7 @@ ghost use Rattle.forth_program.specs.Program.{SourceProgram};
 ghost use Rattle.j1_workbench.specs.Words.{request_of, steps_allowed};
 ghost use Rattle.j1_workbench.specs.SourceText.{program_of_text};
 ghost use Rattle.j1_workbench.specs.Layout.{laid_out};
-ghost use Rattle.j1_workbench.specs.Answers.{AsksToRun, AsksForMore, HoldsOtherText, text_in, IsRefusal, RunLeaves, IsUntouched};
+ghost use Rattle.j1_workbench.specs.Answers.{AsksToRun, AsksForMore, HasNoProgram, HoldsOtherText, NeverRuns, text_in, IsRefusal, RunLeaves, IsUntouched};
 
 use crate::layout::lay_out;
 use crate::running::run_image;
@@ -31,6 +31,9 @@ fn run_text<C: Source, O: Sink>(
         IfSome (C.left console.old) (λ input.
         RunLeaves (laid_out program) input steps result (C.left console.new) (O.held out.old) (O.held out.new)) }
     ensures other_text { program_of_text text.now ≡ None → (result ≡ Status.NotYet) ⊎ (result ≡ Status.OutOfMemory) }
+    ensures no_run { program_of_text text.now ≡ None →
+        IsUntouched (C.left console.old) (C.left console.new) (C.faults console.old) (C.faults console.new)
+        × IsUntouched (O.held out.old) (O.held out.new) (O.faults out.old) (O.faults out.new) }
     ensures not_yet { result ≡ Status.NotYet → program_of_text text.now ≡ None }
     ensures bad_words { result ≡ Status.BadWords → ⊥ }
     ensures missing { result ≡ Status.Missing → ⊥ }
@@ -84,6 +87,9 @@ fn run_source<F: Folder, C: Source, O: Sink>(
     ensures other_text { (text : List ℕ) → text_in (F.files files.old) source.now ≡ Some text → program_of_text text ≡ None →
         (result ≡ Status.NotYet) ⊎ ((result ≡ Status.ReadFault) × Rose (F.read_faults files.old) (F.read_faults files.new)) ⊎ (result ≡ Status.OutOfMemory) }
     ensures bad_words { result ≡ Status.BadWords → ⊥ }
+    ensures no_run { HasNoProgram (F.files files.old) source.now →
+        IsUntouched (C.left console.old) (C.left console.new) (C.faults console.old) (C.faults console.new)
+        × IsUntouched (O.held out.old) (O.held out.new) (O.faults out.old) (O.faults out.new) }
     ensures refused { IsRefusal result →
         IsUntouched (C.left console.old) (C.left console.new) (C.faults console.old) (C.faults console.new)
         × IsUntouched (O.held out.old) (O.held out.new) (O.faults out.old) (O.faults out.new) }
@@ -132,6 +138,9 @@ pub fn answer<F: Folder, C: Source, O: Sink>(
     ensures other_text { (source text : List ℕ) → AsksToRun (request_of (map string_bytes words.now)) source →
         text_in (F.files files.old) source ≡ Some text → program_of_text text ≡ None →
         (result ≡ Status.NotYet) ⊎ ((result ≡ Status.ReadFault) × Rose (F.read_faults files.old) (F.read_faults files.new)) ⊎ (result ≡ Status.OutOfMemory) }
+    ensures no_run { NeverRuns (F.files files.old) (request_of (map string_bytes words.now)) →
+        IsUntouched (C.left console.old) (C.left console.new) (C.faults console.old) (C.faults console.new)
+        × IsUntouched (O.held out.old) (O.held out.new) (O.faults out.old) (O.faults out.new) }
     ensures refused { IsRefusal result →
         IsUntouched (C.left console.old) (C.left console.new) (C.faults console.old) (C.faults console.new)
         × IsUntouched (O.held out.old) (O.held out.new) (O.faults out.old) (O.faults out.new) }

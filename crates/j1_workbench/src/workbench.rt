@@ -8,7 +8,7 @@ ghost use Rattle.forth_program.specs.Program.{SourceProgram};
 ghost use Rattle.j1_workbench.specs.Words.{request_of, steps_allowed};
 ghost use Rattle.j1_workbench.specs.SourceText.{program_of_text};
 ghost use Rattle.j1_workbench.specs.Notes.{note_of};
-ghost use Rattle.j1_workbench.specs.Answers.{AsksToRun, AsksForMore, HoldsOtherText, text_in, IsRefusal, IsUntouched, UnlessNoteFails, IsCompiled, TellsNote};
+ghost use Rattle.j1_workbench.specs.Answers.{AsksToRun, AsksForMore, HoldsOtherText, NeverRuns, text_in, IsRefusal, IsUntouched, UnlessNoteFails, IsCompiled, TellsNote};
 
 use crate::answering::answer;
 use crate::notes::write_note;
@@ -57,7 +57,11 @@ pub fn workbench<F: Folder, C: Source, O: Sink, N: Sink>(
         × IsUntouched (O.held out.old) (O.held out.new) (O.faults out.old) (O.faults out.new)) }
     ensures write_fault_only { result ≡ Status.WriteFault → Rose (O.faults out.old) (O.faults out.new) ⊎ Rose (N.faults notes.old) (N.faults notes.new) }
 
-    // A call that is refused before its run takes no byte and prints nothing, and no file changes.
+    // A call that never runs, also where its note cannot be written, or that is refused before its run, takes no byte and
+    // prints nothing. No file changes.
+    ensures no_run { NeverRuns (F.files files.old) (request_of (map string_bytes words.now)) →
+        IsUntouched (C.left console.old) (C.left console.new) (C.faults console.old) (C.faults console.new)
+        × IsUntouched (O.held out.old) (O.held out.new) (O.faults out.old) (O.faults out.new) }
     ensures refused { IsRefusal result →
         IsUntouched (C.left console.old) (C.left console.new) (C.faults console.old) (C.faults console.new)
         × IsUntouched (O.held out.old) (O.held out.new) (O.faults out.old) (O.faults out.new) }

@@ -2,7 +2,7 @@ use Rattle.std.proofs.Common.{ap, sym, ◌∙◌, inl, inr}
 use Rattle.j1_workbench.specs.SourceText.{program_of_text}
 use Rattle.j1_workbench.specs.Layout.{laid_out}
 use Rattle.j1_workbench.proofs.Driving.{failed_leaves}
-use Rattle.j1_workbench.proofs.Files.{read_tells, holds_other}
+use Rattle.j1_workbench.proofs.Files.{read_tells, holds_other, lacking_gives_none}
 use Rattle.j1_workbench.proofs.answering.run_source.Goals as goal
 
 pub returns-in-Ok-clause-run : goal.returns-in-Ok-clause-run
@@ -20,3 +20,10 @@ returns-in-Ok-clause-other_text g c = λ text told none.
 
 pub returns-in-Err-Failed-clause-run : goal.returns-in-Err-Failed-clause-run
 returns-in-Err-Failed-clause-run g c = λ text program told built. failed_leaves (laid_out program) c.args.steps (g.C.Source.left c.args.console.now) (g.O.Sink.held c.args.out.now)
+
+pub returns-in-Ok-clause-no_run : goal.returns-in-Ok-clause-no_run
+returns-in-Ok-clause-no_run g c = λ none.
+    elim none [
+      | inl lacking ↦ absurd (lacking_gives_none (g.F.Folder.files c.args.files.now) c.args.source.now c.in-Ok.text.items _ lacking c.in-Ok.ensures.bytes)
+      | inr other ↦ c.run_text.ensures.no_run (ap program_of_text c.as_slice.ensures.value ∙ read_tells (g.F.Folder.files c.args.files.now) c.args.source.now other.0 c.in-Ok.text.items other.1 c.in-Ok.ensures.bytes ∙ other.2)
+    ]
