@@ -14,6 +14,7 @@ pub mod Straight
 pub mod Running
 pub mod Needs
 pub mod Leaving
+pub mod Exits
 pub mod Meanings
 pub mod NumberRows
 pub mod Joining

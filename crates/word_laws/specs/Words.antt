@@ -1,5 +1,5 @@
 -- The words whose cells stand in an image as they are: their cells do what the words mean.
-use Rattle.std.specs.Prelude.{ℕ, ◌+◌, ◌-◌, ◌/◌, ◌≤◌, ◌≡◌, ◌↔◌, Bool, true, false, List, ◌∷◌, length, Option}
+use Rattle.std.specs.Prelude.{ℕ, suc, ◌+◌, ◌-◌, ◌/◌, ◌≤◌, ◌≡◌, ◌↔◌, Bool, true, false, List, ◌∷◌, length, Option, Some, None, ℤ, pos, negsuc}
 use Rattle.word_table.specs.declared.word.Class.{Class}
 use Rattle.word_table.specs.declared.word.Class.TheVariants as class
 use Rattle.word_table.specs.declared.word.Word.{Word}
@@ -124,3 +124,19 @@ abbrev pub WordsLeaveCells : Type 0
 WordsLeaveCells =
     (p : SourceProgram) (word : Word) (s after : State) → stands_plain word ≡ true → AreCells s.cells → AreEntries s.entries → IsWorld s.world →
     word_step p word s.cells s.entries s ≡ Goes after → IsKept s after
+
+-- a stack of so many cells has changed by so much
+abbrev pub ChangesBy : ℤ → ℕ → ℕ → Type 0
+ChangesBy (pos n) before after = after ≡ before + n
+ChangesBy (negsuc n) before after = after + suc n ≡ before
+
+-- the change is the exit, the same at both ends; where there is none, no state is left
+abbrev pub LeavesBy : Option (ℤ × ℤ) → ℕ → ℕ → Type 0
+LeavesBy None before after = ⊥
+LeavesBy (Some exit) before after = ChangesBy exit.0 before after × (exit.1 ≡ exit.0)
+
+-- such a word changes the number of data cells by its exit
+abbrev pub WordsChangeDepths : Type 0
+WordsChangeDepths =
+    (p : SourceProgram) (word : Word) (s after : State) → stands_plain word ≡ true →
+    word_step p word s.cells s.entries s ≡ Goes after → LeavesBy (entry_of word).exit (length s.cells) (length after.cells)

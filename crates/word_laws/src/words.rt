@@ -1,5 +1,5 @@
 // What the cells of the inline words and of the words on return entries do.
-ghost use Rattle.word_laws.specs.Words.{WordsDoTheirMeaning, WordsKeepTheirBounds, WordsEndWithinBounds, NeedsAreExact, WordsLeaveCells};
+ghost use Rattle.word_laws.specs.Words.{WordsDoTheirMeaning, WordsKeepTheirBounds, WordsEndWithinBounds, NeedsAreExact, WordsLeaveCells, WordsChangeDepths};
 
 /// The cells of each inline word, and of `>R R> R@ I J UNLOOP`, do the word's meaning in as many instructions, or have ended
 /// as the word ends (an access outside, the end of the input, `ABORT`, `QUIT`, or a store to the halt port).
@@ -23,4 +23,9 @@ pub fn needs_are_exact()
 /// and the place of data space as they were.
 pub fn words_leave_cells()
     ensures { WordsLeaveCells }
+{}
+
+/// Such a word changes the number of data cells by its exit in the table, and a word without an exit ends each run.
+pub fn words_change_depths()
+    ensures { WordsChangeDepths }
 {}
