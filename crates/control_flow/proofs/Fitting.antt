@@ -1,7 +1,8 @@
 -- The items of a source text are such as a program may have.
-use Rattle.std.proofs.Common.{◌≡◌, ℕ, zero, suc, ◌+◌, nat_le, Bool, true, false, ◌&&◌, List, [], ◌∷◌, Option, Some, None, refl, sym, subst, arith}
+use Rattle.std.proofs.Common.{◌≡◌, ℕ, zero, suc, ◌+◌, ◌<◌, nat_le, ◌==◌, Bool, true, false, ◌&&◌, List, [], ◌∷◌, Option, Some, None, refl, sym, subst, arith, leb-true}
 use Rattle.std.specs.Prelude.{IsTrue}
 use Rattle.std.specs.List.{list_all}
+use Rattle.std.proofs.lemmas.Bool.{eqb-false}
 use Rattle.word_table.specs.declared.word.Word.{Word}
 use Rattle.word_table.specs.declared.word.Word.TheVariants.{ToR, RFrom, RFetch, Index, OuterIndex, Unloop, Semicolon}
 use Rattle.word_table.specs.declared.word.Class.{Class}
@@ -11,9 +12,8 @@ use Rattle.word_table.specs.Names.{word_named}
 use Rattle.forth_program.specs.Tree.{Node, Nodes, Literal, Plain, Then}
 use Rattle.forth_program.specs.Form.{everywhere, has_id_below, is_code_class, may_stand, leaves_fit, IsProgram}
 use Rattle.forth_reader.specs.declared.number.NumberRead.{NumberRead}
-use Rattle.forth_reader.specs.declared.number.NumberRead.TheVariants as number
 use Rattle.forth_reader.specs.Reading.{Reading, NoMore, Reads, Refuses, next_from}
-use Rattle.forth_reader.specs.Number.{number_read}
+use Rattle.forth_reader.specs.Number.{is_digit, digits_value, signed_cell, digits_read, number_read}
 use Rattle.control_flow.specs.declared.refusal.SourceCause.{SourceCause}
 use Rattle.control_flow.specs.declared.refusal.SourceCause.TheVariants as cause
 use Rattle.control_flow.specs.declared.sense.Sense.{Sense}
@@ -24,23 +24,24 @@ use Rattle.control_flow.specs.SourceText.{fixed_space, program_with}
 use Rattle.control_flow.specs.Items.{One, Many, seen_of, token_at, item_at, then_items, items_by, items_at}
 
 -- what holds of the value, where there is one
-abbrev Each : {A : Type 0} → (A → Type 0) → Outcome A → Type 0
+abbrev pub Each : {A : Type 0} → (A → Type 0) → Outcome A → Type 0
 Each P (Fine x) = P x
 Each P (Refused k c) = Unit {0}
 Each P NotBuilt = Unit {0}
 Each P Endless = Unit {0}
 
-each_then : {A B : Type 0} (P : A → Type 0) (Q : B → Type 0) (o : Outcome A) (f : A → Outcome B) → Each P o → ((x : A) → P x → Each Q (f x)) → Each Q (o >>= f)
+pub each_then : {A B : Type 0} (P : A → Type 0) (Q : B → Type 0) (o : Outcome A) (f : A → Outcome B) → Each P o → ((x : A) → P x → Each Q (f x)) → Each Q (o >>= f)
 each_then P Q (Fine x) f p h = h x p
 each_then P Q (Refused k c) f p h = tt
 each_then P Q NotBuilt f p h = tt
 each_then P Q Endless f p h = tt
 
-each_is : {A : Type 0} (P : A → Type 0) (o : Outcome A) (x : A) → o ≡ Fine x → Each P o → P x
+pub each_is : {A : Type 0} (P : A → Type 0) (o : Outcome A) (x : A) → o ≡ Fine x → Each P o → P x
 each_is P o x e p = subst (Each P) e p
 
--- a word that stands in an item is inline
-abbrev IsBuilt : Sense → Type 0
+-- a number that stands in an item is a cell, and a word is inline
+abbrev pub IsBuilt : Sense → Type 0
+IsBuilt (sense.Number value) = value < 65536
 IsBuilt (sense.Plain word) = (entry_of word).class ≡ class.Inline
 IsBuilt s = Unit {0}
 
@@ -54,14 +55,28 @@ class_built class.Library word e = tt
 class_built class.Structure word e = structure_built word
 class_built class.Host word e = tt
 
-number_built : (read : NumberRead) → IsBuilt (number_sense read)
-number_built (number.Value x) = tt
-number_built number.Range = tt
-number_built number.NotNumber = tt
+-- a number that is read is a cell
+either_built : (test : Bool) (r s : NumberRead) → (test ≡ true → IsBuilt (number_sense r)) → (test ≡ false → IsBuilt (number_sense s)) → IsBuilt (number_sense (elim test [ true ↦ r | false ↦ s ]))
+either_built true r s h k = h refl
+either_built false r s h k = k refl
 
-sense_built : (token : List ℕ) (found : Option Word) → IsBuilt (sense_by token found)
+cell_built : (is_negative : Bool) (value : ℕ) → IsBuilt (number_sense (signed_cell is_negative value))
+cell_built false value = either_built (nat_le value 65535) _ _ (λ fits. omega (arith, leb-true value 65535 fits)) (λ past. tt)
+cell_built true value =
+    either_built (nat_le value 32768) _ _
+    (λ fits. either_built (value == 0) _ _ (λ is_zero. omega arith) (λ not_zero. omega (arith, eqb-false value 0 not_zero))) (λ past. tt)
+
+digits_built : (is_negative : Bool) (text : List ℕ) → IsBuilt (number_sense (digits_read 10 is_negative text))
+digits_built is_negative [] = tt
+digits_built is_negative (b ∷ bs) = either_built (list_all (is_digit 10) (b ∷ bs)) _ _ (λ digits. cell_built is_negative (digits_value 10 (b ∷ bs))) (λ others. tt)
+
+number_built : (text : List ℕ) → IsBuilt (number_sense (number_read 10 text))
+number_built [] = tt
+number_built (b ∷ bs) = either_built (b == 45) _ _ (λ minus. digits_built true bs) (λ none. digits_built false (b ∷ bs))
+
+pub sense_built : (token : List ℕ) (found : Option Word) → IsBuilt (sense_by token found)
 sense_built token (Some word) = class_built ((entry_of word).class) word refl
-sense_built token None = number_built (number_read 10 token)
+sense_built token None = number_built token
 
 seen_built : (weight : ℕ) (reading : Reading) → Each (λ seen. IsBuilt seen.sense) (seen_of weight reading)
 seen_built weight (NoMore k) = tt

@@ -1,10 +1,8 @@
 -- Each text is judged: the fuel is never spent.
-use Rattle.std.proofs.Common.{◌≡◌, ℕ, zero, suc, ◌+◌, ◌<◌, ◌≤◌, nat_le, ◌==◌, ◌&&◌, Bool, true, false, List, [], ◌∷◌, length, Option, Some, None, subst, arith}
+use Rattle.std.proofs.Common.{◌≡◌, ℕ, zero, suc, ◌+◌, ◌<◌, ◌≤◌, nat_le, Bool, true, false, List, [], ◌∷◌, length, Option, Some, None, subst, arith}
 use Rattle.word_table.specs.Names.{word_named}
 use Rattle.forth_program.specs.Tree.{Nodes}
-use Rattle.forth_reader.specs.declared.refusal.ReadCause.TheVariants as read
-use Rattle.forth_reader.specs.Bytes.{is_graphic, is_blank, is_source_byte, graphic_front, behind_graphic}
-use Rattle.forth_reader.specs.Reading.{Reading, NoMore, Reads, Refuses, ends_token, may_follow_token, whole_token, name_from, next_from, parenthesis_from, line_from}
+use Rattle.forth_reader.specs.Reading.{Reading, NoMore, Reads, Refuses, name_from, next_from}
 use Rattle.control_flow.specs.declared.refusal.SourceCause.{SourceCause}
 use Rattle.control_flow.specs.declared.refusal.SourceCause.TheVariants as cause
 use Rattle.control_flow.specs.declared.sense.Sense.{Sense}
@@ -12,65 +10,7 @@ use Rattle.control_flow.specs.declared.sense.Sense.TheVariants as sense
 use Rattle.control_flow.specs.Outcome.{Place, Outcome, Fine, Refused, NotBuilt, Endless, ◌>>=◌, weighed}
 use Rattle.control_flow.specs.Items.{One, Many, seen_of, token_at, item_at, then_items, items_by, items_at}
 use Rattle.control_flow.specs.SourceText.{Named, Source, Outside, is_reserved_name, is_colon_name, named_of, name_at, definition_at, colon_by, outside_of, outside_at, with_definition, newest_main, program_with, source_by, source_at, started, program_of_text}
-
--- ---- readings: each token takes a byte at least
-
--- fewer than so many bytes are left behind the token, where one was read
-abbrev Fewer : ℕ → Reading → Type 0
-Fewer bound (NoMore k) = Unit {0}
-Fewer bound (Reads token k rest) = length rest < bound
-Fewer bound (Refuses k c) = Unit {0}
-
-front_on : (g : Bool) (b : ℕ) (bs rest : List ℕ) → length rest ≤ length bs → length (elim g as (λ g. List ℕ) [ true ↦ rest | false ↦ b ∷ bs ]) ≤ suc (length bs)
-front_on true b bs rest h = omega arith
-front_on false b bs rest h = omega arith
-
-behind_short : (bs : List ℕ) → length (behind_graphic bs) ≤ length bs
-behind_short [] = omega arith
-behind_short (b ∷ bs) = front_on (is_graphic b) b bs (behind_graphic bs) (behind_short bs)
-
-whole_on : (bound k : ℕ) (token rest : List ℕ) (follows short : Bool) → length rest < bound →
-    Fewer bound (elim follows [ true ↦ elim short [ true ↦ Reads token k rest | false ↦ Refuses k read.NameTooLong ] | false ↦ Refuses k read.NotText ])
-whole_on bound k token rest true true h = h
-whole_on bound k token rest true false h = tt
-whole_on bound k token rest false short h = tt
-
-whole_fewer : (bound k : ℕ) (token rest : List ℕ) → length rest < bound → Fewer bound (whole_token k token rest)
-whole_fewer bound k token rest h = whole_on bound k token rest (may_follow_token rest) (nat_le (length token) 31) h
-
-one_of : (bound : ℕ) (test : Bool) (r s : Reading) → Fewer bound r → Fewer bound s → Fewer bound (elim test [ true ↦ r | false ↦ s ])
-one_of bound true r s h k = h
-one_of bound false r s h k = k
-
-name_fewer : (k bound : ℕ) (bs : List ℕ) → length bs ≤ bound → Fewer bound (name_from k bs)
-name_fewer k bound [] h = tt
-name_fewer k bound (b ∷ bs) h =
-    one_of bound (is_graphic b) _ _ (whole_fewer bound (k + 1) (b ∷ graphic_front bs) (behind_graphic bs) (omega (arith, behind_short bs)))
-    (one_of bound (is_blank b) _ _ (name_fewer k bound bs (omega arith)) tt)
-
-mutual
-  next_fewer : (k bound : ℕ) (bs : List ℕ) → length bs ≤ bound → Fewer bound (next_from k bs)
-  next_fewer k bound [] h = tt
-  next_fewer k bound (b ∷ bs) h =
-      one_of bound (is_graphic b) _ _
-      (one_of bound (ends_token bs && b == 40) _ _ (parenthesis_fewer (k + 1) bound bs (omega arith))
-      (one_of bound (ends_token bs && b == 92) _ _ (line_fewer (k + 1) bound bs (omega arith))
-      (whole_fewer bound (k + 1) (b ∷ graphic_front bs) (behind_graphic bs) (omega (arith, behind_short bs)))))
-      (one_of bound (is_blank b) _ _ (next_fewer k bound bs (omega arith)) tt)
-
-  parenthesis_fewer : (k bound : ℕ) (bs : List ℕ) → length bs ≤ bound → Fewer bound (parenthesis_from k bs)
-  parenthesis_fewer k bound [] h = tt
-  parenthesis_fewer k bound (b ∷ bs) h =
-      one_of bound (b == 41) _ _ (next_fewer k bound bs (omega arith))
-      (one_of bound (is_source_byte b) _ _ (parenthesis_fewer k bound bs (omega arith)) tt)
-
-  line_fewer : (k bound : ℕ) (bs : List ℕ) → length bs ≤ bound → Fewer bound (line_from k bs)
-  line_fewer k bound [] h = tt
-  line_fewer k bound (b ∷ bs) h =
-      one_of bound (b == 10) _ _ (next_fewer k bound bs (omega arith))
-      (one_of bound (is_source_byte b) _ _ (line_fewer k bound bs (omega arith)) tt)
-
--- ---- outcomes
+use Rattle.control_flow.proofs.Readings.{Passes, name_passes, next_passes}
 
 -- it is no spent fuel, and a value is so
 abbrev Ends : {A : Type 0} → (A → Type 0) → Outcome A → Type 0
@@ -96,10 +36,10 @@ weighed_on false after number bound c h = tt
 weighed_ends : (weight bound : ℕ) (at : Place) → Left bound at → Ends (Left bound) (weighed weight at)
 weighed_ends weight bound at h = weighed_on (nat_le (at.weight + weight) 2400) (record at { weight = at.weight + weight }) at.count bound cause.CodeFull h
 
-seen_ends : (weight bound : ℕ) (reading : Reading) → Fewer bound reading → Ends (λ seen. Left bound seen.at) (seen_of weight reading)
-seen_ends weight bound (NoMore k) h = tt
-seen_ends weight bound (Refuses k c) h = tt
-seen_ends weight bound (Reads token k rest) h = h
+seen_ends : (weight bound before : ℕ) (reading : Reading) → Passes before bound reading → Ends (λ seen. Left bound seen.at) (seen_of weight reading)
+seen_ends weight bound before (NoMore k) h = tt
+seen_ends weight bound before (Refuses k c) h = tt
+seen_ends weight bound before (Reads token k rest) h = h.1
 
 item_ends : (bound : ℕ) (at : Place) (s : Sense) → Left bound at → Ends (λ one. Left bound one.at) (item_at at s)
 item_ends bound at (sense.Number x) h = ends_then (Left bound) (λ one. Left bound one.at) (weighed 2 at) _ (weighed_ends 2 bound at h) (λ after left. left)
@@ -126,7 +66,7 @@ items_end : (n bound : ℕ) (at : Place) → Left n at → length at.rest ≤ bo
 unfolding items_at
 items_end zero bound at h k = absurd (omega arith)
 items_end (suc n) bound at h k =
-    ends_then (λ seen. Left (length at.rest) seen.at) (λ many. Left bound many.at) (token_at at) _ (seen_ends at.weight (length at.rest) (next_from at.count at.rest) (next_fewer at.count (length at.rest) at.rest (omega arith)))
+    ends_then (λ seen. Left (length at.rest) seen.at) (λ many. Left bound many.at) (token_at at) _ (seen_ends at.weight (length at.rest) at.count (next_from at.count at.rest) (next_passes at.count (length at.rest) at.count at.rest (omega arith) (omega arith)))
     (λ seen left. wider (items_by (items_at n) seen.at seen.sense)
     (by_ends (items_at n) (length at.rest) (λ after near. items_end n (length at.rest) after (omega arith) (omega arith)) seen.at seen.sense left))
   where
@@ -140,14 +80,14 @@ name_on : (reserved : Bool) (named : Named) (number bound : ℕ) → Left bound 
 name_on true named number bound h = tt
 name_on false named number bound h = h
 
-named_ends : (weight bound : ℕ) (reading : Reading) → Fewer bound reading → Ends (λ named. Left bound named.at) (named_of weight reading)
-named_ends weight bound (NoMore k) h = tt
-named_ends weight bound (Refuses k c) h = tt
-named_ends weight bound (Reads token k rest) h = name_on (is_reserved_name (word_named token)) (record { name = token; at = record { rest = rest; count = k; weight = weight } }) k bound h
+named_ends : (weight bound before : ℕ) (reading : Reading) → Passes before bound reading → Ends (λ named. Left bound named.at) (named_of weight reading)
+named_ends weight bound before (NoMore k) h = tt
+named_ends weight bound before (Refuses k c) h = tt
+named_ends weight bound before (Reads token k rest) h = name_on (is_reserved_name (word_named token)) (record { name = token; at = record { rest = rest; count = k; weight = weight } }) k bound h.1
 
 definition_ends : (n : ℕ) (at : Place) → Left n at → Ends (λ d. Left (length at.rest) d.at) (definition_at n at)
 definition_ends n at h =
-    ends_then (λ named. Left (length at.rest) named.at) (λ d. Left (length at.rest) d.at) (name_at at) _ (named_ends at.weight (length at.rest) (name_from at.count at.rest) (name_fewer at.count (length at.rest) at.rest (omega arith)))
+    ends_then (λ named. Left (length at.rest) named.at) (λ d. Left (length at.rest) d.at) (name_at at) _ (named_ends at.weight (length at.rest) at.count (name_from at.count at.rest) (name_passes at.count (length at.rest) at.count at.rest (omega arith) (omega arith)))
     (λ named left. ends_then (λ many. Left (length at.rest) many.at) (λ d. Left (length at.rest) d.at) (items_at n named.at) _ (items_end n (length at.rest) named.at (omega arith) (omega arith)) (λ many left. left))
 
 -- a definition that begins has fewer bytes left
@@ -159,10 +99,10 @@ colon_ends [] true at bound h = h
 colon_ends [] false at bound h = tt
 colon_ends (body ∷ bodies) is_colon at bound h = tt
 
-outside_ends : (bodies : List Nodes) (weight bound : ℕ) (reading : Reading) → Fewer bound reading → Ends (Begun bound) (outside_of bodies weight reading)
-outside_ends bodies weight bound (NoMore k) h = tt
-outside_ends bodies weight bound (Refuses k c) h = tt
-outside_ends bodies weight bound (Reads token k rest) h = colon_ends bodies (is_colon_name (word_named token)) (record { rest = rest; count = k; weight = weight }) bound h
+outside_ends : (bodies : List Nodes) (weight bound before : ℕ) (reading : Reading) → Passes before bound reading → Ends (Begun bound) (outside_of bodies weight reading)
+outside_ends bodies weight bound before (NoMore k) h = tt
+outside_ends bodies weight bound before (Refuses k c) h = tt
+outside_ends bodies weight bound before (Reads token k rest) h = colon_ends bodies (is_colon_name (word_named token)) (record { rest = rest; count = k; weight = weight }) bound h.1
 
 main_ends : (found : Option ℕ) (names : List (List ℕ)) (bodies : List Nodes) (tokens : ℕ) →
     Ends (λ p. Unit {0}) (elim found [ Some main ↦ Fine (program_with names bodies main tokens) | None ↦ Refused (tokens + 1) cause.NoMain ])
@@ -179,7 +119,7 @@ unfolding source_at
 source_ends zero source h = absurd (omega arith)
 source_ends (suc n) source h =
     ends_then (Begun (length source.at.rest)) (λ p. Unit {0}) (outside_at source) _
-    (outside_ends source.bodies source.at.weight (length source.at.rest) (next_from source.at.count source.at.rest) (next_fewer source.at.count (length source.at.rest) source.at.rest (omega arith)))
+    (outside_ends source.bodies source.at.weight (length source.at.rest) source.at.count (next_from source.at.count source.at.rest) (next_passes source.at.count (length source.at.rest) source.at.count source.at.rest (omega arith) (omega arith)))
     (λ outside b. by_outside n source h (source_ends n) outside.begins outside.at b)
 
 pub judged : (text : List ℕ) → program_of_text text ≡ Endless → ⊥

@@ -12,6 +12,6 @@ mod source;
 #[cfg(test)]
 mod tests;
 
-pub use laws::texts_are_judged;
+pub use laws::{programs_are_lines, texts_are_judged};
 pub use refusal::{SourceCause, SourceError, SourceRefusal};
 pub use source::read_program;
