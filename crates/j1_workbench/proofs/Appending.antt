@@ -1,11 +1,12 @@
 -- What a sink holds after several writes.
-use Rattle.std.proofs.Common.{◌≡◌, ℕ, zero, suc, List, [], ◌∷◌, ◌++◌, take, Option, Some, None, refl, sym, ap, ◌∙◌, subst, append_assoc}
-use Rattle.std.specs.Prelude.{Result, Ok, Err, codes}
+use Rattle.std.proofs.Common.{◌≡◌, ℕ, zero, suc, List, [], ◌∷◌, ◌++◌, take, drop, get_or, length, map, ◌-◌, ◌≤◌, arith, Option, Some, None, refl, sym, ap, ◌∙◌, subst, append_assoc}
+use Rattle.std.specs.Prelude.{Result, Ok, Err}
+use Rattle.std.specs.Borrow.{Bor}
 use Rattle.std.specs.Io.KnownBytes.{Appends}
-use Rattle.std.proofs.lemmas.List.{append-nil}
+use Rattle.std.proofs.lemmas.List.{append-nil, take_all}
 use Rattle.outside_io.specs.Bytes.{AppendsFront, WritesAll}
 use Rattle.j1_workbench.specs.declared.status.Status.{Status}
-use Rattle.j1_workbench.specs.Notes.{line, note_of}
+use Rattle.j1_workbench.specs.Notes.{ended, note_of}
 
 -- one write after another
 pub appends_then : (before between after : Option (List ℕ)) (xs ys : List ℕ) → Appends before between xs → Appends between after ys → Appends before after (xs ++ ys)
@@ -33,27 +34,18 @@ pub writes_then : {T E : Type 0} (before between after : Option (List ℕ)) (res
 writes_then before between after (Ok x) xs ys first second = appends_then before between after xs ys first second
 writes_then before between after (Err e) xs ys first second = subst (AppendsFront before after) (ap (λ l. xs ++ l) (append-nil ys)) (appends_front_then before between after xs ys [] first second)
 
--- a line is written in four pieces, of which each may fail
-pub line_fails_first : {T E : Type 0} (before after : Option (List ℕ)) (result : Result T E) (e : E) (front back : List ℕ) → result ≡ Err e → AppendsFront before after (codes "j1: ") → WritesAll before after result (line front back)
-line_fails_first before after result e front back is failed =
-    let r = front_of_rest [] (codes "j1: ") (front ++ back ++ 10 ∷ []) failed.0 in
-    let told : AppendsFront before after (line front back) = (r.0, subst (Appends before after) (sym r.1) failed.1) in
-    subst (λ x. WritesAll before after x (line front back)) (sym is) told
+-- a write that fails has begun all that was to follow
+pub fails_early : {T E : Type 0} (before after : Option (List ℕ)) (result : Result T E) (e : E) (xs ys : List ℕ) → result ≡ Err e → AppendsFront before after xs → WritesAll before after result (xs ++ ys)
+fails_early before after result e xs ys is failed =
+    let r = front_of_rest [] xs ys failed.0 in
+    let told : AppendsFront before after (xs ++ ys) = (r.0, subst (Appends before after) (sym r.1) failed.1) in
+    subst (λ x. WritesAll before after x (xs ++ ys)) (sym is) told
 
-pub line_fails_second : {T E : Type 0} (before first after : Option (List ℕ)) (result : Result T E) (e : E) (front back : List ℕ) → result ≡ Err e → Appends before first (codes "j1: ") → AppendsFront first after front → WritesAll before after result (line front back)
-line_fails_second before first after result e front back is one failed =
-    let told : AppendsFront before after (line front back) = subst (AppendsFront before after) (ap (λ l. codes "j1: " ++ l) (sym (append_assoc front back (10 ∷ [])))) (appends_front_then before first after (codes "j1: ") front (back ++ 10 ∷ []) one failed) in
-    subst (λ x. WritesAll before after x (line front back)) (sym is) told
-
-pub line_fails_third : {T E : Type 0} (before first second after : Option (List ℕ)) (result : Result T E) (e : E) (front back : List ℕ) → result ≡ Err e → Appends before first (codes "j1: ") → Appends first second front → AppendsFront second after back → WritesAll before after result (line front back)
-line_fails_third before first second after result e front back is one two failed =
-    let told : AppendsFront before after (line front back) = subst (AppendsFront before after) (simp append_assoc) (appends_front_then before second after (codes "j1: " ++ front) back (10 ∷ []) (appends_then before first second (codes "j1: ") front one two) failed) in
-    subst (λ x. WritesAll before after x (line front back)) (sym is) told
-
-pub line_ends : {T E : Type 0} (before first second third after : Option (List ℕ)) (result : Result T E) (front back : List ℕ) → Appends before first (codes "j1: ") → Appends first second front → Appends second third back → WritesAll third after result (10 ∷ []) → WritesAll before after result (line front back)
-line_ends before first second third after result front back one two three last =
-    subst (WritesAll before after result) (simp append_assoc)
-    (writes_then before third after result ((codes "j1: " ++ front) ++ back) (10 ∷ []) (appends_then before second third (codes "j1: " ++ front) back (appends_then before first second (codes "j1: ") front one two) three) last)
+-- the first part, and those after it
+pub parts_ended : (parts : List (Bor (List ℕ))) (none : Bor (List ℕ)) → 1 ≤ length parts →
+    ended (map (λ part. part.now) parts) ≡ (get_or parts 0 none).now ++ ended (map (λ part. part.now) (take (length parts - 1) (drop 1 parts)))
+parts_ended [] none some = absurd (omega arith)
+parts_ended (part ∷ parts) none some = ap (λ rest. part.now ++ ended (map (λ part. part.now) rest)) (sym (take_all (suc (length parts) - 1) parts (omega arith)))
 
 -- the note of a status that is known
 pub noted : {T E : Type 0} (before after : Option (List ℕ)) (result : Result T E) (words : List (List ℕ)) (status known : Status) (text : List ℕ) → status ≡ known → text ≡ note_of words known → WritesAll before after result text → WritesAll before after result (note_of words status)

@@ -1,6 +1,6 @@
 -- The headline, at the programs of texts.
-use Rattle.std.proofs.Common.{◌≡◌, ℕ, List, [], sym, subst}
-use Rattle.std.specs.Prelude.{Option, Some, None, IfSome}
+use Rattle.std.proofs.Common.{◌≡◌, ℕ, List, [], length, nat_le, true, false, refl, sym, ap, ◌∙◌, subst}
+use Rattle.std.specs.Prelude.{Option, Some, None, IfSome, if◌then◌else◌}
 use Rattle.std.specs.Io.KnownBytes.{Appends}
 use Rattle.std.proofs.lemmas.List.{append-nil}
 use Rattle.j1_table.specs.Image.{Content}
@@ -8,28 +8,49 @@ use Rattle.j1_simulator.specs.Run.{round_run}
 use Rattle.j1_simulator.specs.Drive.{HoldsFront}
 use Rattle.forth_program.specs.Program.{SourceProgram}
 use Rattle.j1_workbench.specs.declared.status.Status.{Status}
-use Rattle.j1_workbench.specs.declared.status.Status.TheVariants.{Done, BadWords, Missing, StepsUsed, InputEnded, Outside, Halted, ReadFault, WriteFault, OutOfMemory, NotYet}
-use Rattle.j1_workbench.specs.SourceText.{program_of_text}
+use Rattle.j1_workbench.specs.declared.status.Status.TheVariants.{Done, BadWords, Missing, SourceRefused, StepsUsed, InputEnded, Outside, Halted, ReadFault, WriteFault, OutOfMemory, TooLarge, NotYet}
+use Rattle.control_flow.specs.Outcome.{Outcome, Fine, Refused, NotBuilt, Endless}
+use Rattle.control_flow.specs.SourceText.{program_of_text}
+use Rattle.control_flow.specs.SourceLaw.{EachProgramIsOneLine}
+use Rattle.j1_workbench.specs.Certificate.{is_certified}
+use Rattle.j1_workbench.specs.Judgement.{judgement_of, judged, Compiles, IsAnswered}
 use Rattle.j1_workbench.specs.Layout.{laid_out}
-use Rattle.j1_workbench.specs.Headline.{Agrees}
+use Rattle.j1_workbench.specs.Headline.{AreBytes, Agrees}
+use Rattle.j1_workbench.specs.HeadlineLaw.{LinesAgree}
 use Rattle.j1_workbench.specs.Answers.{IsRefusal, RunLeaves, IsCompiled}
 use Rattle.j1_workbench.proofs.Driving.{front_of_nothing}
-use Rattle.j1_workbench.proofs.PrintingAgrees.{printing_agrees}
-use Rattle.j1_workbench.proofs.Texts.{program_prints}
 
 -- the program of a text agrees with its image
-text_agrees : (text input : List ℕ) (program : SourceProgram) → program_of_text text ≡ Some program → Agrees program (laid_out program) input
-text_agrees text input program built =
-    let prints = program_prints text program built in
-    subst (λ p. Agrees p (laid_out p) input) (sym prints.program_is) (printing_agrees prints.values input prints.bytes prints.few_values)
+compiles_if : (o : Outcome SourceProgram) (program : SourceProgram) → judgement_of o ≡ Compiles program → (o ≡ Fine program) × (is_certified program ≡ true)
+compiles_if (Fine p) program e =
+    elim (is_certified p) as (λ certified. is_certified p ≡ certified → (if certified then Compiles p else IsAnswered NotYet) ≡ Compiles program → (Fine p ≡ Fine program) × (is_certified program ≡ true)) [
+      | true ↦ λ certified same. (cc, ap is_certified (let s : program ≡ p = cc in s) ∙ certified)
+      | false ↦ λ certified same. cc
+    ] refl e
+compiles_if (Refused token c) program e = cc
+compiles_if NotBuilt program e = cc
+compiles_if Endless program e = cc
 
-pub compiled : (text input : List ℕ) (program : SourceProgram) (steps : ℕ) (status : Status) (left left_now before now : Option (List ℕ)) →
-    program_of_text text ≡ Some program → left ≡ Some input →
+compiles : (text : List ℕ) (program : SourceProgram) → judged text ≡ Compiles program → (program_of_text text ≡ Fine program) × (is_certified program ≡ true)
+unfolding judged
+compiles text program e =
+    elim (nat_le (length text) 65536) as (λ short. (if short then judgement_of (program_of_text text) else IsAnswered TooLarge) ≡ Compiles program → (program_of_text text ≡ Fine program) × (is_certified program ≡ true)) [
+      | true ↦ λ same. compiles_if (program_of_text text) program same
+      | false ↦ λ same. cc
+    ] e
+
+text_agrees : LinesAgree → EachProgramIsOneLine → (text input : List ℕ) (program : SourceProgram) → judged text ≡ Compiles program → AreBytes input → Agrees program (laid_out program) input
+text_agrees agree lines text input program built bytes =
+    let is = compiles text program built in
+    agree program input (lines text program is.0) is.1 bytes
+
+pub compiled : LinesAgree → EachProgramIsOneLine → (text input : List ℕ) (program : SourceProgram) (steps : ℕ) (status : Status) (left left_now before now : Option (List ℕ)) →
+    judged text ≡ Compiles program → left ≡ Some input → AreBytes input →
     IfSome left (λ input. RunLeaves (laid_out program) input steps status left_now before now) →
     IsCompiled program input steps status left_now before now
-compiled text input program steps status left left_now before now built told run = record {
+compiled agree lines text input program steps status left left_now before now built told bytes run = record {
   run = subst (λ l. IfSome l (λ input. RunLeaves (laid_out program) input steps status left_now before now)) told run;
-  agrees = text_agrees text input program built;
+  agrees = text_agrees agree lines text input program built bytes;
 }
 
 -- all that was printed begins with itself
@@ -49,6 +70,8 @@ any_front image input steps (Halted number) left before now run refused = whole_
 any_front image input steps ReadFault left before now run refused = run.broke_off tt
 any_front image input steps WriteFault left before now run refused = run.broke_off tt
 any_front image input steps BadWords left before now run refused = front_of_nothing before now _ (refused tt)
+any_front image input steps (SourceRefused refusal) left before now run refused = front_of_nothing before now _ (refused tt)
+any_front image input steps TooLarge left before now run refused = front_of_nothing before now _ (refused tt)
 any_front image input steps Missing left before now run refused = front_of_nothing before now _ (refused tt)
 any_front image input steps OutOfMemory left before now run refused = front_of_nothing before now _ (refused tt)
 any_front image input steps NotYet left before now run refused = front_of_nothing before now _ (refused tt)
@@ -59,11 +82,11 @@ front_told image input steps status left left_now before now told run refused =
     any_front image input steps status left_now before now (subst (λ l. IfSome l (λ input. RunLeaves image input steps status left_now before now)) told run) refused
 
 -- where the write of the note failed
-pub compiled_without_note : (text input : List ℕ) (program : SourceProgram) (steps : ℕ) (status : Status) (left left_now before now : Option (List ℕ)) →
-    program_of_text text ≡ Some program → left ≡ Some input →
+pub compiled_without_note : LinesAgree → EachProgramIsOneLine → (text input : List ℕ) (program : SourceProgram) (steps : ℕ) (status : Status) (left left_now before now : Option (List ℕ)) →
+    judged text ≡ Compiles program → left ≡ Some input → AreBytes input →
     IfSome left (λ input. RunLeaves (laid_out program) input steps status left_now before now) → (IsRefusal status → now ≡ before) →
     IsCompiled program input steps WriteFault left_now before now
-compiled_without_note text input program steps status left left_now before now built told run refused = record {
+compiled_without_note agree lines text input program steps status left left_now before now built told bytes run refused = record {
   run = record { ran = λ answered. absurd answered; broke_off = λ fault. front_told (laid_out program) input steps status left left_now before now told run refused };
-  agrees = text_agrees text input program built;
+  agrees = text_agrees agree lines text input program built bytes;
 }

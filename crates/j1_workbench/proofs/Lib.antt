@@ -4,11 +4,9 @@ pub mod Digits
 pub mod Driving
 pub mod Fetching
 pub mod Files
-pub mod Printing
-pub mod PrintingAgrees
-pub mod PrintingImage
-pub mod PrintingRun
-pub mod PrintingSource
-pub mod PrintingSteps
 pub mod Straight
-pub mod Texts
+pub mod Walking
+pub mod LineAgrees
+pub mod LineImage
+pub mod LineSteps
+pub mod Lines

@@ -1,5 +1,5 @@
 -- When the workbench gives which answer.
-use Rattle.std.specs.Prelude.{◌≡◌, ◌⊎◌, ℕ, List, Option, Some, None, option_map, Result, Ok, Err, ⊤}
+use Rattle.std.specs.Prelude.{◌≡◌, ◌⊎◌, ℕ, Bool, true, false, List, Option, Some, None, option_map, Result, Ok, Err, ⊤}
 use Rattle.std.specs.Io.KnownBytes.{Appends}
 use Rattle.outside_io.specs.Bytes.{AppendsFront}
 use Rattle.outside_io.specs.Causes.{Rose}
@@ -14,55 +14,58 @@ use Rattle.j1_simulator.specs.Step.{By}
 use Rattle.j1_simulator.specs.Run.{round_run}
 use Rattle.j1_simulator.specs.Drive.{HoldsFront}
 use Rattle.j1_workbench.specs.declared.status.Status.{Status}
-use Rattle.j1_workbench.specs.declared.status.Status.TheVariants.{Done, BadWords, Missing, StepsUsed, InputEnded, Outside, Halted, ReadFault, WriteFault, OutOfMemory, NotYet}
-use Rattle.j1_workbench.specs.Words.{Request, Run, Build, Execute, ListImage, Assemble, Certify, Evaluate, Forth, Make}
+use Rattle.j1_workbench.specs.declared.status.Status.TheVariants.{Done, BadWords, Missing, SourceRefused, StepsUsed, InputEnded, Outside, Halted, ReadFault, WriteFault, OutOfMemory, TooLarge, NotYet}
+use Rattle.j1_workbench.specs.Words.{Request, Run}
 use Rattle.j1_workbench.specs.Statuses.{status_of}
-use Rattle.j1_workbench.specs.SourceText.{program_of_text}
+use Rattle.j1_workbench.specs.Judgement.{judged, IsAnswered}
 use Rattle.j1_workbench.specs.Layout.{laid_out}
 use Rattle.j1_workbench.specs.Headline.{Agrees}
 use Rattle.j1_workbench.specs.Notes.{note_of}
 use Rattle.forth_program.specs.Program.{SourceProgram}
 
--- the source that is to be compiled and run, where that is asked for
-abbrev pub source_to_run : Request → Option (List ℕ)
-source_to_run (Run source None) = Some source
-source_to_run (Run source (Some steps)) = None
-source_to_run (Build source image) = None
-source_to_run (Execute image steps) = None
-source_to_run (ListImage image) = None
-source_to_run (Assemble listing image) = None
-source_to_run (Certify source) = None
-source_to_run (Evaluate source steps) = None
-source_to_run (Forth steps) = None
-source_to_run (Make seed count) = None
+-- these words ask to run the source of this name, for so many instructions where they say it
+abbrev pub AsksToRun : Option Request → List ℕ → Option ℕ → Type 0
+AsksToRun request source steps = request ≡ Some (Run source steps)
 
--- these words ask to run the source of this name
-abbrev pub AsksToRun : Option Request → List ℕ → Type 0
-AsksToRun None source = ⊥
-AsksToRun (Some request) source = source_to_run request ≡ Some source
+-- whether a command is built
+abbrev pub is_built : Request → Bool
+is_built (Run source steps) = true
+is_built request = false
 
 -- these words have the form of a command that is not built yet
 abbrev pub AsksForMore : Option Request → Type 0
 AsksForMore None = ⊥
-AsksForMore (Some request) = source_to_run request ≡ None
+AsksForMore (Some request) = is_built request ≡ false
 
 -- what a file holds, where the folder tells it
 abbrev pub text_in : Option Files → List ℕ → Option (List ℕ)
 text_in None name = None
 text_in (Some files) name = files name
 
--- the file is there, where the folder tells it, with a text that is not built yet
-abbrev pub HoldsOtherText : Option Files → List ℕ → Type 0
-HoldsOtherText None name = ⊤
-HoldsOtherText (Some files) name = (text : List ℕ) × (files name ≡ Some text) × (program_of_text text ≡ None)
+-- a told folder has the file, with a text that has this answer
+abbrev pub HoldsTextOf : Status → Option Files → List ℕ → Type 0
+HoldsTextOf status None name = ⊤
+HoldsTextOf status (Some files) name = (text : List ℕ) × (files name ≡ Some text) × (judged text ≡ IsAnswered status)
 
--- a told folder lacks the file, or holds a text that is not built
+-- a told folder lacks the file, or holds a text that is not compiled
 abbrev pub HasNoProgram : Option Files → List ℕ → Type 0
-HasNoProgram files name = IsLacking files name ⊎ ((text : List ℕ) × (text_in files name ≡ Some text) × (program_of_text text ≡ None))
+HasNoProgram files name = IsLacking files name ⊎ ((text : List ℕ) × (status : Status) × (text_in files name ≡ Some text) × (judged text ≡ IsAnswered status))
 
--- nothing is to be run: no command, a command that is not built, or a file without a program that is built
+-- nothing is to be run: no command, a command that is not built, or a file without a program that is compiled
 abbrev pub NeverRuns : Option Files → Option Request → Type 0
-NeverRuns files request = (request ≡ None) ⊎ (AsksForMore request ⊎ ((source : List ℕ) × AsksToRun request source × HasNoProgram files source))
+NeverRuns files request = (request ≡ None) ⊎ (AsksForMore request ⊎ ((source : List ℕ) × (steps : Option ℕ) × AsksToRun request source steps × HasNoProgram files source))
+
+-- the answers that tell of a text
+abbrev pub IsTextAnswer : Status → Type 0
+IsTextAnswer (SourceRefused refusal) = ⊤
+IsTextAnswer TooLarge = ⊤
+IsTextAnswer status = ⊥
+
+-- the answers of a call whose text is not compiled
+abbrev pub IsTextRefusal : Status → Type 0
+IsTextRefusal OutOfMemory = ⊤
+IsTextRefusal NotYet = ⊤
+IsTextRefusal status = IsTextAnswer status
 
 -- the answers of a call that ran an image
 abbrev pub IsRunAnswer : Status → Type 0
@@ -71,26 +74,17 @@ IsRunAnswer StepsUsed = ⊤
 IsRunAnswer InputEnded = ⊤
 IsRunAnswer (Outside address) = ⊤
 IsRunAnswer (Halted status) = ⊤
-IsRunAnswer BadWords = ⊥
-IsRunAnswer Missing = ⊥
-IsRunAnswer ReadFault = ⊥
-IsRunAnswer WriteFault = ⊥
-IsRunAnswer OutOfMemory = ⊥
-IsRunAnswer NotYet = ⊥
+IsRunAnswer status = ⊥
 
 -- the answers of a call that is refused before its run
 abbrev pub IsRefusal : Status → Type 0
 IsRefusal BadWords = ⊤
 IsRefusal Missing = ⊤
+IsRefusal (SourceRefused refusal) = ⊤
 IsRefusal OutOfMemory = ⊤
+IsRefusal TooLarge = ⊤
 IsRefusal NotYet = ⊤
-IsRefusal Done = ⊥
-IsRefusal StepsUsed = ⊥
-IsRefusal InputEnded = ⊥
-IsRefusal (Outside address) = ⊥
-IsRefusal (Halted status) = ⊥
-IsRefusal ReadFault = ⊥
-IsRefusal WriteFault = ⊥
+IsRefusal status = ⊥
 
 -- a run of so many instructions on this input: the status of its end, the input left, and what it printed behind what out held
 pub record RanAs (image : Content) (input : List ℕ) (steps : ℕ) (status : Status) (left before now : Option (List ℕ)) : Type 0 where
@@ -104,15 +98,7 @@ pub record RanAs (image : Content) (input : List ℕ) (steps : ℕ) (status : St
 abbrev pub IsFault : Status → Type 0
 IsFault ReadFault = ⊤
 IsFault WriteFault = ⊤
-IsFault Done = ⊥
-IsFault StepsUsed = ⊥
-IsFault InputEnded = ⊥
-IsFault (Outside address) = ⊥
-IsFault (Halted status) = ⊥
-IsFault BadWords = ⊥
-IsFault Missing = ⊥
-IsFault OutOfMemory = ⊥
-IsFault NotYet = ⊥
+IsFault status = ⊥
 
 -- what a call leaves that was to run an image: all of the run, or after a fault a beginning of what it prints
 pub record RunLeaves (image : Content) (input : List ℕ) (steps : ℕ) (status : Status) (left before now : Option (List ℕ)) : Type 0 where

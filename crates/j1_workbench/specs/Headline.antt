@@ -1,5 +1,6 @@
 -- What the run of an image on the chip has to do with the meaning of its source.
-use Rattle.std.specs.Prelude.{◌≡◌, ℕ, ◌+◌, ◌*◌, ◌/◌, ◌≤◌, ℤ, pos, List, drop, Some}
+use Rattle.std.specs.Prelude.{◌≡◌, ℕ, ◌+◌, ◌*◌, ◌/◌, ◌<◌, ◌≤◌, ℤ, pos, List, drop, Some}
+use Rattle.std.specs.List.{All}
 use Rattle.j1_table.specs.Image.{Content}
 use Rattle.j1_simulator.specs.Step.{Stop}
 use Rattle.j1_simulator.specs.Run.{round_run, IsPrefixOf}
@@ -8,6 +9,9 @@ use Rattle.forth_program.specs.Program.{SourceProgram}
 use Rattle.forth_program.specs.Run.{source_run, world_of, end_of}
 use Rattle.forth_program.specs.Price.{price}
 use Rattle.word_laws.specs.Standing.{machine_end}
+
+abbrev pub AreBytes : List ℕ → Type 0
+AreBytes input = All (λ byte. byte < 256) input
 
 -- so many word steps of the source do at least what n instructions of its image do
 abbrev pub word_steps : SourceProgram → ℕ → ℕ

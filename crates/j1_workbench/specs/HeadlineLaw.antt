@@ -1,10 +1,11 @@
--- The law on the programs that are built.
-use Rattle.std.specs.Prelude.{ℕ, ◌<◌, ◌≤◌, List, length}
-use Rattle.std.specs.List.{All}
-use Rattle.j1_workbench.specs.SourceText.{program_printing}
+-- The law on the programs that are compiled.
+use Rattle.std.specs.Prelude.{◌≡◌, ℕ, List, true}
+use Rattle.forth_program.specs.Program.{SourceProgram}
+use Rattle.control_flow.specs.SourceLaw.{IsOneLine}
+use Rattle.j1_workbench.specs.Certificate.{is_certified}
 use Rattle.j1_workbench.specs.Layout.{laid_out}
-use Rattle.j1_workbench.specs.Headline.{Agrees}
+use Rattle.j1_workbench.specs.Headline.{AreBytes, Agrees}
 
--- a program that prints at most 479 bytes agrees with its image
-abbrev pub PrintingAgrees : Type 0
-PrintingAgrees = (values input : List ℕ) → All (λ value. value < 256) values → length values ≤ 479 → Agrees (program_printing values) (laid_out (program_printing values)) input
+-- a certified straight line agrees with its image
+abbrev pub LinesAgree : Type 0
+LinesAgree = (program : SourceProgram) (input : List ℕ) → IsOneLine program → is_certified program ≡ true → AreBytes input → Agrees program (laid_out program) input

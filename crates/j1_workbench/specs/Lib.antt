@@ -1,7 +1,8 @@
 pub mod Numbers
 pub mod Words
 pub mod Commands
-pub mod SourceText
+pub mod Certificate
+pub mod Judgement
 pub mod Layout
 pub mod Notes
 pub mod Statuses

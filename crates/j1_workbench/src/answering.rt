@@ -1,16 +1,17 @@
 // The answer of each command.
-ghost use Rattle.std.specs.Prelude.{◌≡◌, ◌≤◌, ◌↔◌, ◌⊎◌, ℕ, List, Some, None, IfSome, map, string_bytes};
+ghost use Rattle.std.specs.Prelude.{◌≡◌, ◌≤◌, ◌↔◌, ◌⊎◌, ℕ, List, Option, Some, None, IfSome, map, string_bytes};
 ghost use Rattle.outside_io.specs.Causes.{Rose};
 ghost use Rattle.outside_io.specs.Files.{Lacks, IsLacking, KeepsFiles};
 ghost use Rattle.forth_program.specs.Program.{SourceProgram};
 ghost use Rattle.j1_workbench.specs.Words.{request_of, steps_allowed};
-ghost use Rattle.j1_workbench.specs.SourceText.{program_of_text};
+ghost use Rattle.j1_workbench.specs.Judgement.{judged, Compiles, IsAnswered};
+ghost use Rattle.j1_workbench.specs.declared.status.Status.{Status as Answer};
 ghost use Rattle.j1_workbench.specs.Layout.{laid_out};
-ghost use Rattle.j1_workbench.specs.Answers.{AsksToRun, AsksForMore, HasNoProgram, HoldsOtherText, NeverRuns, text_in, IsRefusal, RunLeaves, IsUntouched};
+ghost use Rattle.j1_workbench.specs.Answers.{AsksToRun, AsksForMore, HasNoProgram, HoldsTextOf, NeverRuns, text_in, IsTextAnswer, IsRefusal, RunLeaves, IsUntouched};
 
 use crate::layout::lay_out;
 use crate::running::run_image;
-use crate::source::program_of_text;
+use crate::source::judge;
 use crate::status::Status;
 use crate::words::{Command, command_of};
 use outside_io::{FileFault, Folder, Sink, Source};
@@ -27,14 +28,15 @@ fn run_text<C: Source, O: Sink>(
     console: &mut C,
     out: &mut O,
 ) -> Status
-    ensures run { (program : SourceProgram) → program_of_text text.now ≡ Some program →
+    ensures run { (program : SourceProgram) → judged text.now ≡ Compiles program →
         IfSome (C.left console.old) (λ input.
         RunLeaves (laid_out program) input steps result (C.left console.new) (O.held out.old) (O.held out.new)) }
-    ensures other_text { program_of_text text.now ≡ None → (result ≡ Status.NotYet) ⊎ (result ≡ Status.OutOfMemory) }
-    ensures no_run { program_of_text text.now ≡ None →
+    ensures answer { (status : Answer) → judged text.now ≡ IsAnswered status → (result ≡ status) ⊎ (result ≡ Status.OutOfMemory) }
+    ensures no_run { (status : Answer) → judged text.now ≡ IsAnswered status →
         IsUntouched (C.left console.old) (C.left console.new) (C.faults console.old) (C.faults console.new)
         × IsUntouched (O.held out.old) (O.held out.new) (O.faults out.old) (O.faults out.new) }
-    ensures not_yet { result ≡ Status.NotYet → program_of_text text.now ≡ None }
+    ensures not_yet { result ≡ Status.NotYet → judged text.now ≡ IsAnswered Status.NotYet }
+    ensures refused_text { IsTextAnswer result → judged text.now ≡ IsAnswered result }
     ensures bad_words { result ≡ Status.BadWords → ⊥ }
     ensures missing { result ≡ Status.Missing → ⊥ }
     ensures refused { IsRefusal result →
@@ -46,10 +48,9 @@ fn run_text<C: Source, O: Sink>(
     ensures console_faults { C.faults console.old ≤ C.faults console.new }
     ensures out_faults { O.faults out.old ≤ O.faults out.new }
 {
-    let program = match program_of_text(alloc, text) {
-        Ok(Some(program)) => program,
-        Ok(None) => return Status::NotYet,
-        Err(_) => return Status::OutOfMemory,
+    let program = match judge(alloc, text) {
+        Ok(program) => program,
+        Err(status) => return status,
     };
     match lay_out(alloc, &program) {
         Ok(image) => run_image(alloc, &image, steps, console, out),
@@ -77,15 +78,16 @@ fn run_source<F: Folder, C: Source, O: Sink>(
     console: &mut C,
     out: &mut O,
 ) -> Status
-    ensures run { (text : List ℕ) (program : SourceProgram) → text_in (F.files files.old) source.now ≡ Some text → program_of_text text ≡ Some program →
+    ensures run { (text : List ℕ) (program : SourceProgram) → text_in (F.files files.old) source.now ≡ Some text → judged text ≡ Compiles program →
         IfSome (C.left console.old) (λ input.
         RunLeaves (laid_out program) input steps result (C.left console.new) (O.held out.old) (O.held out.new)) }
     ensures missing { result ≡ Status.Missing → Rose (F.absences files.old) (F.absences files.new) × Lacks (F.files files.old) source.now }
     ensures lacking { IsLacking (F.files files.old) source.now →
         (result ≡ Status.Missing) ⊎ ((result ≡ Status.ReadFault) × Rose (F.read_faults files.old) (F.read_faults files.new)) ⊎ (result ≡ Status.OutOfMemory) }
-    ensures not_yet { result ≡ Status.NotYet → HoldsOtherText (F.files files.old) source.now }
-    ensures other_text { (text : List ℕ) → text_in (F.files files.old) source.now ≡ Some text → program_of_text text ≡ None →
-        (result ≡ Status.NotYet) ⊎ ((result ≡ Status.ReadFault) × Rose (F.read_faults files.old) (F.read_faults files.new)) ⊎ (result ≡ Status.OutOfMemory) }
+    ensures not_yet { result ≡ Status.NotYet → HoldsTextOf Status.NotYet (F.files files.old) source.now }
+    ensures refused_text { IsTextAnswer result → HoldsTextOf result (F.files files.old) source.now }
+    ensures other_text { (text : List ℕ) (status : Answer) → text_in (F.files files.old) source.now ≡ Some text → judged text ≡ IsAnswered status →
+        (result ≡ status) ⊎ ((result ≡ Status.ReadFault) × Rose (F.read_faults files.old) (F.read_faults files.new)) ⊎ (result ≡ Status.OutOfMemory) }
     ensures bad_words { result ≡ Status.BadWords → ⊥ }
     ensures no_run { HasNoProgram (F.files files.old) source.now →
         IsUntouched (C.left console.old) (C.left console.new) (C.faults console.old) (C.faults console.new)
@@ -123,21 +125,22 @@ pub fn answer<F: Folder, C: Source, O: Sink>(
     console: &mut C,
     out: &mut O,
 ) -> Status
-    ensures run { (source text : List ℕ) (program : SourceProgram) → AsksToRun (request_of (map string_bytes words.now)) source →
-        text_in (F.files files.old) source ≡ Some text → program_of_text text ≡ Some program →
+    ensures run { (source text : List ℕ) (steps : Option ℕ) (program : SourceProgram) → AsksToRun (request_of (map string_bytes words.now)) source steps →
+        text_in (F.files files.old) source ≡ Some text → judged text ≡ Compiles program →
         IfSome (C.left console.old) (λ input.
-        RunLeaves (laid_out program) input (steps_allowed None) result (C.left console.new) (O.held out.old) (O.held out.new)) }
+        RunLeaves (laid_out program) input (steps_allowed steps) result (C.left console.new) (O.held out.old) (O.held out.new)) }
     ensures bad_words { (result ≡ Status.BadWords) ↔ (request_of (map string_bytes words.now) ≡ None) }
     ensures not_built { AsksForMore (request_of (map string_bytes words.now)) → result ≡ Status.NotYet }
-    ensures missing { result ≡ Status.Missing → (source : List ℕ) × AsksToRun (request_of (map string_bytes words.now)) source
+    ensures missing { result ≡ Status.Missing → (source : List ℕ) × (steps : Option ℕ) × AsksToRun (request_of (map string_bytes words.now)) source steps
         × Rose (F.absences files.old) (F.absences files.new) × Lacks (F.files files.old) source }
-    ensures lacking { (source : List ℕ) → AsksToRun (request_of (map string_bytes words.now)) source → IsLacking (F.files files.old) source →
+    ensures lacking { (source : List ℕ) (steps : Option ℕ) → AsksToRun (request_of (map string_bytes words.now)) source steps → IsLacking (F.files files.old) source →
         (result ≡ Status.Missing) ⊎ ((result ≡ Status.ReadFault) × Rose (F.read_faults files.old) (F.read_faults files.new)) ⊎ (result ≡ Status.OutOfMemory) }
     ensures not_yet { result ≡ Status.NotYet → AsksForMore (request_of (map string_bytes words.now))
-        ⊎ ((source : List ℕ) × AsksToRun (request_of (map string_bytes words.now)) source × HoldsOtherText (F.files files.old) source) }
-    ensures other_text { (source text : List ℕ) → AsksToRun (request_of (map string_bytes words.now)) source →
-        text_in (F.files files.old) source ≡ Some text → program_of_text text ≡ None →
-        (result ≡ Status.NotYet) ⊎ ((result ≡ Status.ReadFault) × Rose (F.read_faults files.old) (F.read_faults files.new)) ⊎ (result ≡ Status.OutOfMemory) }
+        ⊎ ((source : List ℕ) × (steps : Option ℕ) × AsksToRun (request_of (map string_bytes words.now)) source steps × HoldsTextOf Status.NotYet (F.files files.old) source) }
+    ensures refused_text { IsTextAnswer result → (source : List ℕ) × (steps : Option ℕ) × AsksToRun (request_of (map string_bytes words.now)) source steps × HoldsTextOf result (F.files files.old) source }
+    ensures other_text { (source text : List ℕ) (steps : Option ℕ) (status : Answer) → AsksToRun (request_of (map string_bytes words.now)) source steps →
+        text_in (F.files files.old) source ≡ Some text → judged text ≡ IsAnswered status →
+        (result ≡ status) ⊎ ((result ≡ Status.ReadFault) × Rose (F.read_faults files.old) (F.read_faults files.new)) ⊎ (result ≡ Status.OutOfMemory) }
     ensures no_run { NeverRuns (F.files files.old) (request_of (map string_bytes words.now)) →
         IsUntouched (C.left console.old) (C.left console.new) (C.faults console.old) (C.faults console.new)
         × IsUntouched (O.held out.old) (O.held out.new) (O.faults out.old) (O.faults out.new) }
@@ -160,12 +163,9 @@ pub fn answer<F: Folder, C: Source, O: Sink>(
 {
     match command_of(words) {
         None => Status::BadWords,
-        Some(
-            Command::Run {
-                source,
-                steps: None,
-            },
-        ) => run_source(alloc, source, steps_allowed(None), files, console, out),
+        Some(Command::Run { source, steps }) => {
+            run_source(alloc, source, steps_allowed(steps), files, console, out)
+        }
         Some(_) => Status::NotYet,
     }
 }

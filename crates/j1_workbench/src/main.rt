@@ -2,7 +2,8 @@
 #![tactic(auto)]
 
 mod answering;
-mod fields;
+mod certificate;
+mod laws;
 mod layout;
 mod notes;
 mod numbers;

@@ -2,21 +2,33 @@
 ghost use Rattle.std.specs.Prelude.{◌≡◌, map, string_bytes};
 ghost use Rattle.outside_io.specs.Causes.{HasCause};
 ghost use Rattle.outside_io.specs.Bytes.{WritesAll};
-ghost use Rattle.j1_workbench.specs.Notes.{file_named, line, note_of};
+ghost use Rattle.j1_workbench.specs.Notes.{file_named, ended, line, cause_named, note_of};
 
 use crate::status::Status;
+use control_flow::SourceCause;
 use itoa::Buffer;
 use outside_io::{Failed, Sink};
 
-// Writes a line of two parts, piece by piece.
-fn write_line<N: Sink>(notes: &mut N, front: &[u8], back: &[u8]) -> Result<(), Failed>
-    ensures bytes { WritesAll (N.held notes.old) (N.held notes.new) result (line front.now back.now) }
+// Writes parts one behind the other, and a line feed.
+fn write_parts<N: Sink>(notes: &mut N, parts: &[&[u8]]) -> Result<(), Failed>
+    ensures bytes { WritesAll (N.held notes.old) (N.held notes.new) result (ended (map (λ part. part.now) parts.now)) }
+    ensures cause { HasCause (N.faults notes.old) (N.faults notes.new) result }
+{
+    match parts {
+        [] => notes.write(b"\n"),
+        [part, rest @ ..] => {
+            notes.write(part)?;
+            write_parts(notes, rest)
+        }
+    }
+}
+
+fn write_line<N: Sink>(notes: &mut N, parts: &[&[u8]]) -> Result<(), Failed>
+    ensures bytes { WritesAll (N.held notes.old) (N.held notes.new) result (line (map (λ part. part.now) parts.now)) }
     ensures cause { HasCause (N.faults notes.old) (N.faults notes.new) result }
 {
     notes.write(b"j1: ")?;
-    notes.write(front)?;
-    notes.write(back)?;
-    notes.write(b"\n")
+    write_parts(notes, parts)
 }
 
 // The file that is read: the word behind the command.
@@ -29,6 +41,31 @@ fn file_named(words: &[String]) -> &str
     }
 }
 
+fn cause_named(cause: SourceCause) -> &'static [u8]
+    ensures { result.now ≡ cause_named cause }
+{
+    match cause {
+        SourceCause::NotText => b"NotText",
+        SourceCause::NameTooLong => b"NameTooLong",
+        SourceCause::OpenComment => b"OpenComment",
+        SourceCause::OpenString => b"OpenString",
+        SourceCause::NeedsName => b"NeedsName",
+        SourceCause::UnknownWord => b"UnknownWord",
+        SourceCause::NumberRange => b"NumberRange",
+        SourceCause::NotInDefinition => b"NotInDefinition",
+        SourceCause::OnlyInDefinition => b"OnlyInDefinition",
+        SourceCause::BadNest => b"BadNest",
+        SourceCause::TooDeep => b"TooDeep",
+        SourceCause::HostUnderflow => b"HostUnderflow",
+        SourceCause::HostOverflow => b"HostOverflow",
+        SourceCause::TooManyWords => b"TooManyWords",
+        SourceCause::DataFull => b"DataFull",
+        SourceCause::CodeFull => b"CodeFull",
+        SourceCause::OpenDefinition => b"OpenDefinition",
+        SourceCause::NoMain => b"NoMain",
+    }
+}
+
 /// Writes the line of a status, in pieces and without memory. Done has none.
 pub fn write_note<N: Sink>(notes: &mut N, words: &[String], status: Status) -> Result<(), Failed>
     ensures bytes { WritesAll (N.held notes.old) (N.held notes.new) result (note_of (map string_bytes words.now) status) }
@@ -37,19 +74,24 @@ pub fn write_note<N: Sink>(notes: &mut N, words: &[String], status: Status) -> R
     let mut digits = Buffer::new();
     match status {
         Status::Done => Ok(()),
-        Status::BadWords => write_line(notes, b"bad words", b""),
-        Status::Missing => write_line(notes, file_named(words).as_bytes(), b": missing"),
-        Status::StepsUsed => write_line(notes, b"steps used", b""),
-        Status::InputEnded => write_line(notes, b"input ended", b""),
+        Status::BadWords => write_line(notes, &[b"bad words"]),
+        Status::Missing => write_line(notes, &[file_named(words).as_bytes(), b": missing"]),
+        Status::SourceRefused(refusal) => {
+            let number = digits.format(refusal.token).as_bytes();
+            write_line(notes, &[b"source token ", number, b": ", cause_named(refusal.cause)])
+        }
+        Status::StepsUsed => write_line(notes, &[b"steps used"]),
+        Status::InputEnded => write_line(notes, &[b"input ended"]),
         Status::Outside(address) => {
-            write_line(notes, b"outside ", digits.format(address).as_bytes())
+            write_line(notes, &[b"outside ", digits.format(address).as_bytes()])
         }
         Status::Halted(number) => {
-            write_line(notes, b"halted ", digits.format(number).as_bytes())
+            write_line(notes, &[b"halted ", digits.format(number).as_bytes()])
         }
-        Status::ReadFault => write_line(notes, b"read fault", b""),
-        Status::WriteFault => write_line(notes, b"write fault", b""),
-        Status::OutOfMemory => write_line(notes, b"out of memory", b""),
-        Status::NotYet => write_line(notes, b"not yet", b""),
+        Status::ReadFault => write_line(notes, &[b"read fault"]),
+        Status::WriteFault => write_line(notes, &[b"write fault"]),
+        Status::OutOfMemory => write_line(notes, &[b"out of memory"]),
+        Status::TooLarge => write_line(notes, &[file_named(words).as_bytes(), b": too large"]),
+        Status::NotYet => write_line(notes, &[b"not yet"]),
     }
 }

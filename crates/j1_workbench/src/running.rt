@@ -2,7 +2,7 @@
 ghost use Rattle.std.specs.Prelude.{◌≡◌, ◌≤◌, IfSome};
 ghost use Rattle.outside_io.specs.Causes.{Rose};
 ghost use Rattle.j1_workbench.specs.Statuses.{status_of};
-ghost use Rattle.j1_workbench.specs.Answers.{RunLeaves, IsUntouched, status_after};
+ghost use Rattle.j1_workbench.specs.Answers.{IsRefusal, RunLeaves, IsUntouched, status_after};
 
 use crate::status::Status;
 use j1_simulator::{DriveError, End, Finish, Machine, drive, runs_only_grow};
@@ -44,9 +44,7 @@ pub fn run_image<C: Source, O: Sink>(
 ) -> Status
     ensures run { IfSome (C.left console.old) (λ input.
         RunLeaves image.now input steps result (C.left console.new) (O.held out.old) (O.held out.new)) }
-    ensures bad_words { result ≡ Status.BadWords → ⊥ }
-    ensures missing { result ≡ Status.Missing → ⊥ }
-    ensures not_yet { result ≡ Status.NotYet → ⊥ }
+    ensures refused { IsRefusal result → result ≡ Status.OutOfMemory }
     ensures no_memory { result ≡ Status.OutOfMemory →
         IsUntouched (C.left console.old) (C.left console.new) (C.faults console.old) (C.faults console.new)
         × IsUntouched (O.held out.old) (O.held out.new) (O.faults out.old) (O.faults out.new) }

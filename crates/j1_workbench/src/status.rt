@@ -2,6 +2,8 @@
 ghost use Rattle.std.specs.Prelude.{◌≡◌};
 ghost use Rattle.j1_workbench.specs.Statuses.{number_of};
 
+use control_flow::SourceRefusal;
+
 /// How a call of the workbench ends.
 #[derive(Clone, Copy, Debug, PartialEq, Eq)]
 pub enum Status {
@@ -11,6 +13,8 @@ pub enum Status {
     BadWords,
     /// The file to be read is not there.
     Missing,
+    /// The source text is refused: its first refused token, and why.
+    SourceRefused(SourceRefusal),
     /// The run had no end within its instructions.
     StepsUsed,
     /// The run wanted an input byte where none was left.
@@ -25,6 +29,8 @@ pub enum Status {
     WriteFault,
     /// There was no memory.
     OutOfMemory,
+    /// The file has more bytes than its kind may have.
+    TooLarge,
     /// The command, or the source text, is not built yet.
     NotYet,
 }
@@ -37,6 +43,7 @@ pub fn status_number(status: &Status) -> u8
         Status::Done => 0,
         Status::BadWords => 1,
         Status::Missing => 2,
+        Status::SourceRefused(_) => 3,
         Status::StepsUsed => 6,
         Status::InputEnded => 7,
         Status::Outside(_) => 8,
@@ -44,6 +51,7 @@ pub fn status_number(status: &Status) -> u8
         Status::ReadFault => 10,
         Status::WriteFault => 11,
         Status::OutOfMemory => 12,
+        Status::TooLarge => 13,
         Status::NotYet => 15,
     }
 }

@@ -1,18 +1,22 @@
 // The top call.
-ghost use Rattle.std.specs.Prelude.{◌≡◌, ◌≢◌, ◌≤◌, ◌⊎◌, ℕ, List, Some, None, map, string_bytes};
+ghost use Rattle.std.specs.Prelude.{◌≡◌, ◌≢◌, ◌≤◌, ◌⊎◌, ℕ, List, Option, Some, None, map, string_bytes};
 ghost use Rattle.std.specs.Io.KnownBytes.{Appends};
 ghost use Rattle.outside_io.specs.Bytes.{AppendsFront};
 ghost use Rattle.outside_io.specs.Causes.{Rose};
 ghost use Rattle.outside_io.specs.Files.{Lacks, IsLacking, KeepsFiles};
 ghost use Rattle.forth_program.specs.Program.{SourceProgram};
 ghost use Rattle.j1_workbench.specs.Words.{request_of, steps_allowed};
-ghost use Rattle.j1_workbench.specs.SourceText.{program_of_text};
+ghost use Rattle.j1_workbench.specs.Judgement.{judged, Compiles, IsAnswered};
+ghost use Rattle.j1_workbench.specs.Headline.{AreBytes};
+ghost use Rattle.j1_workbench.specs.declared.status.Status.{Status as Answer};
 ghost use Rattle.j1_workbench.specs.Notes.{note_of};
-ghost use Rattle.j1_workbench.specs.Answers.{AsksToRun, AsksForMore, HoldsOtherText, NeverRuns, text_in, IsRefusal, IsUntouched, UnlessNoteFails, IsCompiled, TellsNote};
+ghost use Rattle.j1_workbench.specs.Answers.{AsksToRun, AsksForMore, HoldsTextOf, NeverRuns, text_in, IsTextAnswer, IsRefusal, IsUntouched, UnlessNoteFails, IsCompiled, TellsNote};
 
 use crate::answering::answer;
+use crate::laws::lines_agree;
 use crate::notes::write_note;
 use crate::status::Status;
+use control_flow::programs_are_lines;
 use outside_io::{Failed, Folder, Sink, Source};
 use std::alloc::Global;
 
@@ -29,27 +33,28 @@ pub fn workbench<F: Folder, C: Source, O: Sink, N: Sink>(
     notes: &mut N,
 ) -> Status
     // What was compiled and run printed what its source means.
-    ensures headline { (source text input : List ℕ) (program : SourceProgram) → AsksToRun (request_of (map string_bytes words.now)) source →
-        text_in (F.files files.old) source ≡ Some text → program_of_text text ≡ Some program → C.left console.old ≡ Some input →
-        IsCompiled program input (steps_allowed None) result (C.left console.new) (O.held out.old) (O.held out.new) }
+    ensures headline { (source text input : List ℕ) (steps : Option ℕ) (program : SourceProgram) → AsksToRun (request_of (map string_bytes words.now)) source steps →
+        text_in (F.files files.old) source ≡ Some text → judged text ≡ Compiles program → C.left console.old ≡ Some input → AreBytes input →
+        IsCompiled program input (steps_allowed steps) result (C.left console.new) (O.held out.old) (O.held out.new) }
 
     // Each answer has its cause.
     ensures bad_words { request_of (map string_bytes words.now) ≡ None →
         UnlessNoteFails (N.faults notes.old) (N.faults notes.new) result (result ≡ Status.BadWords) }
     ensures bad_words_only { result ≡ Status.BadWords → request_of (map string_bytes words.now) ≡ None }
-    ensures missing { (source : List ℕ) → AsksToRun (request_of (map string_bytes words.now)) source → IsLacking (F.files files.old) source →
+    ensures missing { (source : List ℕ) (steps : Option ℕ) → AsksToRun (request_of (map string_bytes words.now)) source steps → IsLacking (F.files files.old) source →
         UnlessNoteFails (N.faults notes.old) (N.faults notes.new) result
         ((result ≡ Status.Missing) ⊎ ((result ≡ Status.ReadFault) × Rose (F.read_faults files.old) (F.read_faults files.new)) ⊎ (result ≡ Status.OutOfMemory)) }
-    ensures missing_only { result ≡ Status.Missing → (source : List ℕ) × AsksToRun (request_of (map string_bytes words.now)) source
+    ensures missing_only { result ≡ Status.Missing → (source : List ℕ) × (steps : Option ℕ) × AsksToRun (request_of (map string_bytes words.now)) source steps
         × Rose (F.absences files.old) (F.absences files.new) × Lacks (F.files files.old) source }
     ensures not_built { AsksForMore (request_of (map string_bytes words.now)) →
         UnlessNoteFails (N.faults notes.old) (N.faults notes.new) result (result ≡ Status.NotYet) }
-    ensures other_text { (source text : List ℕ) → AsksToRun (request_of (map string_bytes words.now)) source →
-        text_in (F.files files.old) source ≡ Some text → program_of_text text ≡ None →
+    ensures other_text { (source text : List ℕ) (steps : Option ℕ) (status : Answer) → AsksToRun (request_of (map string_bytes words.now)) source steps →
+        text_in (F.files files.old) source ≡ Some text → judged text ≡ IsAnswered status →
         UnlessNoteFails (N.faults notes.old) (N.faults notes.new) result
-        ((result ≡ Status.NotYet) ⊎ ((result ≡ Status.ReadFault) × Rose (F.read_faults files.old) (F.read_faults files.new)) ⊎ (result ≡ Status.OutOfMemory)) }
+        ((result ≡ status) ⊎ ((result ≡ Status.ReadFault) × Rose (F.read_faults files.old) (F.read_faults files.new)) ⊎ (result ≡ Status.OutOfMemory)) }
     ensures not_yet_only { result ≡ Status.NotYet → AsksForMore (request_of (map string_bytes words.now))
-        ⊎ ((source : List ℕ) × AsksToRun (request_of (map string_bytes words.now)) source × HoldsOtherText (F.files files.old) source) }
+        ⊎ ((source : List ℕ) × (steps : Option ℕ) × AsksToRun (request_of (map string_bytes words.now)) source steps × HoldsTextOf Status.NotYet (F.files files.old) source) }
+    ensures refused_text_only { IsTextAnswer result → (source : List ℕ) × (steps : Option ℕ) × AsksToRun (request_of (map string_bytes words.now)) source steps × HoldsTextOf result (F.files files.old) source }
     ensures read_fault_only { result ≡ Status.ReadFault →
         Rose (C.faults console.old) (C.faults console.new)
         ⊎ (Rose (F.read_faults files.old) (F.read_faults files.new)
@@ -79,6 +84,9 @@ pub fn workbench<F: Folder, C: Source, O: Sink, N: Sink>(
     ensures out_faults { O.faults out.old ≤ O.faults out.new }
     ensures notes_faults { N.faults notes.old ≤ N.faults notes.new }
 {
+    // each program is a line, and a certified line does on the chip what it means
+    programs_are_lines();
+    lines_agree();
     let status = answer(alloc, words, files, console, out);
     match write_note(notes, words, status) {
         Ok(()) => status,

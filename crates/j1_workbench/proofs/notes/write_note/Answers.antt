@@ -1,5 +1,7 @@
-use Rattle.std.proofs.Common.{map, string_bytes, refl, rules}
-use Rattle.j1_workbench.specs.declared.status.Status.TheVariants.{BadWords, StepsUsed, InputEnded, Outside, WriteFault}
+use Rattle.std.proofs.Common.{map, string_bytes, [], ◌∷◌, refl, ap, ◌∙◌, rules}
+use Rattle.std.specs.Prelude.{codes}
+use Rattle.j1_workbench.specs.declared.status.Status.TheVariants.{BadWords, StepsUsed, InputEnded, Outside, WriteFault, TooLarge}
+use Rattle.j1_workbench.specs.Notes.{line}
 use Rattle.j1_workbench.proofs.Appending.{noted}
 use Rattle.j1_workbench.proofs.notes.write_note.Goals as goal
 
@@ -17,3 +19,8 @@ returns-in-Outside-clause-bytes g c = noted _ _ _ (map string_bytes c.args.words
 
 pub returns-in-WriteFault-clause-bytes : goal.returns-in-WriteFault-clause-bytes
 returns-in-WriteFault-clause-bytes g c = noted _ _ _ (map string_bytes c.args.words.now) c.args.status WriteFault _ c.in-WriteFault.is refl c.write_line-in-WriteFault.ensures.bytes
+
+pub returns-in-TooLarge-clause-bytes : goal.returns-in-TooLarge-clause-bytes
+returns-in-TooLarge-clause-bytes g c =
+    noted _ _ _ (map string_bytes c.args.words.now) c.args.status TooLarge _ c.in-TooLarge.is
+    (ap (λ name. line (name ∷ codes ": too large" ∷ [])) (c.as_bytes-in-TooLarge.ensures.value ∙ c.file_named-in-TooLarge.ensures)) c.write_line-in-TooLarge.ensures.bytes
