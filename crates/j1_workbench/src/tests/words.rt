@@ -1,0 +1,266 @@
+// The table of words, written down by hand from its rules, against the crate's.
+use super::vectors::cells_in;
+use std::test::Fail;
+use word_table::{Class, WordEntry, entry, plain_cells, word_of};
+
+// The lines of `docs/WORDS.md`: name, class, stack, need, exit, peak, back, price, weight, cells in hexadecimal, meaning.
+const TABLE: &str = r#"
+| `DUP` | inline | x -- x x | 1 | 1 | 1 | 0 | 1 | 1 | 6081 | copies the top cell |
+| `DROP` | inline | x -- | 1 | -1 | 0 | 0 | 1 | 1 | 6103 | takes the top cell away |
+| `SWAP` | inline | x y -- y x | 2 | 0 | 0 | 0 | 1 | 1 | 6180 | exchanges the two top cells |
+| `OVER` | inline | x y -- x y x | 2 | 1 | 1 | 0 | 1 | 1 | 6181 | copies the second cell to the top |
+| `ROT` | inline | x y z -- y z x | 3 | 0 | 0 | 1 | 4 | 4 | 6147 6180 6B8D 6180 | moves the third cell to the top |
+| `2DUP` | inline | x y -- x y x y | 2 | 2 | 2 | 0 | 2 | 2 | 6181 6181 | copies the two top cells |
+| `2DROP` | inline | x y -- | 2 | -2 | 0 | 0 | 2 | 2 | 6103 6103 | takes the two top cells away |
+| `+` | inline | x y -- z | 2 | -1 | 0 | 0 | 1 | 1 | 6203 | the sum |
+| `-` | inline | x y -- z | 2 | -1 | 0 | 0 | 4 | 4 | 6600 6203 8001 6203 | x less y |
+| `NEGATE` | inline | n -- -n | 1 | 0 | 1 | 0 | 3 | 3 | 6600 8001 6203 | 0 less n |
+| `1+` | inline | x -- y | 1 | 0 | 1 | 0 | 2 | 2 | 8001 6203 | one more |
+| `1-` | inline | x -- y | 1 | 0 | 0 | 0 | 1 | 1 | 6A00 | one less |
+| `2*` | inline | x -- y | 1 | 0 | 1 | 0 | 2 | 2 | 8001 6D03 | twice x |
+| `AND` | inline | x y -- z | 2 | -1 | 0 | 0 | 1 | 1 | 6303 | the bits that both have |
+| `OR` | inline | x y -- z | 2 | -1 | 0 | 0 | 1 | 1 | 6403 | the bits that one of them has |
+| `XOR` | inline | x y -- z | 2 | -1 | 0 | 0 | 1 | 1 | 6503 | the bits in which they differ |
+| `INVERT` | inline | x -- y | 1 | 0 | 0 | 0 | 1 | 1 | 6600 | every bit turned |
+| `LSHIFT` | inline | x u -- y | 2 | -1 | 0 | 0 | 1 | 1 | 6D03 | shifts left by the low four bits of u |
+| `RSHIFT` | inline | x u -- y | 2 | -1 | 0 | 0 | 1 | 1 | 6903 | shifts right by the low four bits of u, zeros in |
+| `=` | inline | x y -- flag | 2 | -1 | 0 | 0 | 1 | 1 | 6703 | whether they are equal |
+| `<` | inline | n m -- flag | 2 | -1 | 0 | 0 | 1 | 1 | 6803 | whether n is less than m, signed |
+| `>` | inline | n m -- flag | 2 | -1 | 0 | 0 | 2 | 2 | 6180 6803 | whether n is greater than m, signed |
+| `U<` | inline | u v -- flag | 2 | -1 | 0 | 0 | 1 | 1 | 6F03 | whether u is less than v, unsigned |
+| `0=` | inline | x -- flag | 1 | 0 | 1 | 0 | 2 | 2 | 8000 6703 | whether x is 0 |
+| `0<` | inline | n -- flag | 1 | 0 | 1 | 0 | 2 | 2 | 8000 6803 | whether n is negative |
+| `S>D` | inline | n -- d | 1 | 1 | 2 | 0 | 3 | 3 | 6081 8000 6803 | widens a signed cell to a double cell |
+| `CELLS` | inline | n -- m | 1 | 0 | 1 | 0 | 2 | 2 | 8001 6D03 | the bytes of n cells: twice n |
+| `CELL+` | inline | a -- b | 1 | 0 | 1 | 0 | 2 | 2 | 8002 6203 | the address one cell on: a + 2 |
+| `CHARS` | inline | n -- n | 1 | 0 | 0 | 0 | 0 | 0 | | the bytes of n characters: n |
+| `CHAR+` | inline | a -- b | 1 | 0 | 1 | 0 | 2 | 2 | 8001 6203 | the address one byte on: a + 1 |
+| `ALIGNED` | inline | a -- b | 1 | 0 | 1 | 0 | 5 | 5 | 8001 6203 8001 6600 6303 | the first even address from a on |
+| `@` | inline | a -- x | 1 | 0 | 0 | 0 | 1 | 1 | 6C00 | fetches the cell at a |
+| `!` | inline | x a -- | 2 | -2 | 0 | 0 | 2 | 2 | 6023 6103 | stores x at a |
+| `EMIT` | inline | c -- | 1 | -1 | 1 | 0 | 3 | 3 | C000 6023 6103 | prints the low byte of c |
+| `KEY` | inline | -- c | 0 | 1 | 1 | 0 | 2 | 2 | C002 6C00 | takes a byte of the input |
+| `BL` | inline | -- c | 0 | 1 | 1 | 0 | 1 | 1 | 8020 | the space character, 32 |
+| `CR` | inline | -- | 0 | 0 | 2 | 0 | 4 | 4 | 800A C000 6023 6103 | prints a line feed, byte 10 |
+| `SPACE` | inline | -- | 0 | 0 | 2 | 0 | 4 | 4 | 8020 C000 6023 6103 | prints a space, byte 32 |
+| `BASE` | inline | -- a | 0 | 1 | 1 | 0 | 1 | 1 | A000 | the address of the number base, 8192 |
+| `HERE` | inline | -- a | 0 | 1 | 1 | 0 | 2 | 2 | A004 6C00 | the next free address of data space: the cell at 8196 |
+| `DECIMAL` | inline | -- | 0 | 0 | 2 | 0 | 4 | 4 | 800A A000 6023 6103 | makes the number base ten |
+| `DEPTH` | inline | -- u | 0 | 1 | 2 | 0 | 3 | 3 | 6E81 801F 6303 | the number of data cells before it |
+| `ABORT` | inline | -- | 0 | - | 2 | 0 | 3 | 3 | 8001 C004 6023 | ends the run as Halted(1) |
+| `QUIT` | inline | -- | 0 | - | 2 | 0 | 3 | 3 | 8003 C004 6023 | ends the run as Halted(3) |
+| `;` | structure | -- | 0 | 0 | 0 | 0 | 1 | 1 | | ends a definition, which returns there |
+| `(` | structure | -- | 0 | 0 | 0 | 0 | 0 | 0 | | a comment up to the next `)` |
+| `\` | structure | -- | 0 | 0 | 0 | 0 | 0 | 0 | | a comment up to the end of the line |
+| `>R` | structure | x -- | 1 | -1 | 0 | 0 | 1 | 1 | 6147 | moves a cell to the return stack |
+| `R>` | structure | -- x | 0 | 1 | 1 | 0 | 1 | 1 | 6B8D | moves a cell back from the return stack |
+| `R@` | structure | -- x | 0 | 1 | 1 | 0 | 1 | 1 | 6B81 | copies the top cell of the return stack |
+| `I` | structure | -- n | 0 | 1 | 3 | 0 | 5 | 5 | 6B8D 6B81 6181 6147 6203 | the index of the loop |
+| `J` | structure | -- n | 0 | 1 | 5 | 0 | 12 | 12 | 6B8D 6B8D 6B8D 6B81 6181 6203 6180 6147 6180 6147 6180 6147 | the index of the next outer loop |
+| `UNLOOP` | structure | -- | 0 | 0 | 1 | 0 | 4 | 4 | 6B8D 6103 6B8D 6103 | takes the innermost loop's two return cells away |
+| `S"` | structure | -- a u | 0 | 2 | 2 | 0 | 2 | 2 | | the address and length of the text up to the next `"` |
+| `."` | structure | -- | 0 | 0 | 10 | 7 | 42 + 80 | 3 | | prints the text up to the next `"`; counts bytes |
+| `ABORT"` | structure | flag -- | 1 | -1 | 11 | 8 | 40 + 80 | 3 | | where the flag is true, prints the text and ends the run as Halted(2); counts bytes, none at a false flag |
+| `IF` | structure | flag -- | 1 | -1 | 0 | 0 | 1 | 1 | | goes on where the flag is true, else behind `ELSE` or `THEN` |
+| `WHILE` | structure | flag -- | 1 | -1 | 0 | 0 | 1 | 1 | | goes on where the flag is true, else behind `REPEAT` |
+| `UNTIL` | structure | flag -- | 1 | -1 | 0 | 0 | 1 | 1 | | goes back to `BEGIN` where the flag is false |
+| `ELSE` | structure | -- | 0 | 0 | 0 | 0 | 1 | 1 | | ends the true branch of an `IF` and begins the false one |
+| `REPEAT` | structure | -- | 0 | 0 | 0 | 0 | 1 | 1 | | goes back to `BEGIN` |
+| `THEN` | structure | -- | 0 | 0 | 0 | 0 | 0 | 0 | | ends an `IF` |
+| `BEGIN` | structure | -- | 0 | 0 | 0 | 0 | 0 | 0 | | begins a loop that `UNTIL` or `REPEAT` ends |
+| `DO` | structure | limit first -- | 2 | -2 | 1 | 0 | 8 | 8 | | begins a loop from the first index toward the limit |
+| `LOOP` | structure | -- | 0 | 0 | 2 | 0 | 12 | 12 | | adds 1 to the index and goes on unless it then is the limit |
+| `+LOOP` | structure | n -- | 1 | -1 | 4 | 0 | 24 | 24 | | adds n to the index and goes on unless it crosses the line between limit - 1 and limit |
+| `LEAVE` | structure | -- | 0 | 0 | 1 | 0 | 5 | 5 | | leaves the innermost `DO` at once |
+| `EXIT` | structure | -- | 0 | 0 | 0 | 0 | 1 | 1 | | returns from the definition |
+| `RECURSE` | structure | -- | 0 | 0 | 0 | 0 | 1 | 1 | | calls the definition that it stands in |
+| `[']` | structure | -- t | 0 | 1 | 1 | 0 | 2 | 2 | | the token of the word that follows |
+| `[CHAR]` | structure | -- c | 0 | 1 | 1 | 0 | 2 | 2 | | the first character of the name that follows |
+| `LITERAL` | structure | -- x | 0 | 1 | 1 | 0 | 2 | 2 | | the cell that was on top of the host stack |
+| `[` | structure | -- | 0 | 0 | 0 | 0 | 0 | 0 | | begins host words inside a definition |
+| `]` | structure | -- | 0 | 0 | 0 | 0 | 0 | 0 | | ends them |
+| `?DUP` | library | x -- 0 or x x | 1 | 0 to 1 | 2 | 2 | 12 | 1 | | copies the top cell unless it is 0 |
+| `2SWAP` | library | x y z w -- z w x y | 4 | 0 | 2 | 4 | 24 | 1 | | exchanges the two top pairs |
+| `2OVER` | library | x y z w -- x y z w x y | 4 | 2 | 4 | 6 | 48 | 1 | | copies the second pair to the top |
+| `ABS` | library | n -- u | 1 | 0 | 3 | 2 | 20 | 1 | | the absolute value; -32768 gives 32768 |
+| `MAX` | library | n m -- k | 2 | -1 | 3 | 2 | 20 | 1 | | the greater, signed |
+| `MIN` | library | n m -- k | 2 | -1 | 3 | 2 | 20 | 1 | | the lesser, signed |
+| `2/` | library | n -- m | 1 | 0 | 3 | 2 | 24 | 1 | | half, rounded down, signed |
+| `C@` | library | a -- c | 1 | 0 | 4 | 2 | 24 | 1 | | fetches the byte at a; the odd byte of a cell is the high one |
+| `C!` | library | c a -- | 2 | -2 | 5 | 4 | 48 | 1 | | stores the low byte of c at a |
+| `+!` | library | n a -- | 2 | -2 | 3 | 3 | 24 | 1 | | adds n to the cell at a |
+| `2@` | library | a -- x y | 1 | 1 | 3 | 2 | 16 | 1 | | fetches a pair: y at a, x at the next cell |
+| `2!` | library | x y a -- | 3 | -3 | 3 | 2 | 20 | 1 | | stores a pair: y at a, x at the next cell |
+| `COUNT` | library | a -- b c | 1 | 1 | 6 | 4 | 40 | 1 | | a counted text: the address of its first byte and its length |
+| `,` | library | x -- | 1 | -1 | 5 | 5 | 48 | 1 | | appends a cell to data space |
+| `C,` | library | c -- | 1 | -1 | 7 | 6 | 96 | 1 | | appends a byte to data space |
+| `ALLOT` | library | n -- | 1 | -1 | 5 | 5 | 40 | 1 | | moves HERE by n bytes |
+| `ALIGN` | library | -- | 0 | 0 | 5 | 4 | 32 | 1 | | makes HERE even |
+| `UM*` | library | u v -- ud | 2 | 0 | 6 | 5 | 1100 | 1 | | the double product, unsigned |
+| `M*` | library | n m -- d | 2 | 0 | 8 | 7 | 1400 | 1 | | the double product, signed |
+| `*` | library | x y -- z | 2 | -1 | 8 | 6 | 1200 | 1 | | the low cell of the product |
+| `UM/MOD` | library | ud u -- r q | 3 | -1 | 6 | 5 | 2400 | 1 | | remainder and quotient, unsigned |
+| `SM/REM` | library | d n -- r q | 3 | -1 | 8 | 7 | 3000 | 1 | | remainder and quotient, rounded toward 0 |
+| `FM/MOD` | library | d n -- r q | 3 | -1 | 10 | 8 | 3200 | 1 | | remainder and quotient, rounded down |
+| `/MOD` | library | n m -- r q | 2 | 0 | 12 | 10 | 3600 | 1 | | remainder and quotient, rounded down |
+| `/` | library | n m -- q | 2 | -1 | 12 | 11 | 3700 | 1 | | the quotient, rounded down |
+| `MOD` | library | n m -- r | 2 | -1 | 12 | 11 | 3700 | 1 | | the remainder of the quotient that is rounded down |
+| `*/MOD` | library | n m k -- r q | 3 | -1 | 12 | 11 | 5200 | 1 | | remainder and quotient of the double product n * m by k |
+| `*/` | library | n m k -- q | 3 | -2 | 12 | 12 | 5300 | 1 | | that quotient |
+| `<#` | library | -- | 0 | 0 | 3 | 2 | 20 | 1 | | begins a number's text |
+| `HOLD` | library | c -- | 1 | -1 | 8 | 6 | 140 | 1 | | puts a character before the text |
+| `SIGN` | library | n -- | 1 | -1 | 9 | 7 | 180 | 1 | | puts a minus before the text where n is negative |
+| `#` | library | ud -- ud | 2 | 0 | 10 | 9 | 6000 | 1 | | puts the next digit before the text |
+| `#S` | library | ud -- 0 0 | 2 | 0 | 11 | 10 | 200000 | 1 | | puts all digits that are left before the text, at least one |
+| `#>` | library | ud -- a u | 2 | 0 | 3 | 2 | 20 | 1 | | ends the text: its address and length |
+| `.` | library | n -- | 1 | -1 | 14 | 12 | 120000 | 1 | | prints n, signed, and a space |
+| `U.` | library | u -- | 1 | -1 | 14 | 12 | 120000 | 1 | | prints u, unsigned, and a space |
+| `TYPE` | library | a u -- | 2 | -2 | 8 | 6 | 40 + 80 | 1 | | prints u bytes from a on; counts bytes |
+| `SPACES` | library | n -- | 1 | -1 | 5 | 4 | 40 + 40 | 1 | | prints n spaces, none where n is not positive; counts spaces |
+| `FILL` | library | a u c -- | 3 | -3 | 8 | 8 | 40 + 120 | 1 | | stores c in each of u bytes from a on; counts bytes |
+| `MOVE` | library | a b u -- | 3 | -3 | 10 | 8 | 80 + 160 | 1 | | copies u bytes from a to b, also where they overlap; counts bytes |
+| `ACCEPT` | library | a u -- v | 2 | -1 | 8 | 8 | 100 + 120 | 1 | | takes a line of at most u bytes to a and gives its length; counts bytes taken |
+| `>NUMBER` | library | ud a u -- ud b v | 4 | 0 | 12 | 10 | 100 + 3200 | 1 | | adds digits to a double number until another byte comes; counts bytes fetched |
+| `EXECUTE` | library | t -- | 1 | - | 4 | 3 | 30 | 1 | | does the word of the token t; the exit is that of the word |
+| `:` | host | -- | 0 | 0 | 0 | 0 | 0 | 0 | | begins a definition of the name that follows |
+| `'` | host | -- t | 0 | 0 | 0 | 0 | 0 | 0 | | the token of the word that follows |
+| `CHAR` | host | -- c | 0 | 0 | 0 | 0 | 0 | 0 | | the first character of the name that follows |
+| `CONSTANT` | host | x -- | 0 | 0 | 0 | 0 | 0 | 0 | | names x |
+| `VARIABLE` | host | -- | 0 | 0 | 0 | 0 | 0 | 0 | | names a new cell of data space |
+| `CREATE` | host | -- | 0 | 0 | 0 | 0 | 0 | 0 | | names the next free address |
+| `DOES>` | host | -- | 0 | 0 | 0 | 0 | 0 | 0 | | begins what the words of a defining word do |
+| `>BODY` | host | t -- a | 0 | 0 | 0 | 0 | 0 | 0 | | the data address of a word that `CREATE` made |
+"#;
+
+// The Core word set (ANS Forth, section 6.1).
+const CORE: &str = r#"
+! # #> #S ' ( * */ */MOD + +! +LOOP , - . ." / /MOD 0< 0= 1+ 1- 2! 2* 2/ 2@ 2DROP 2DUP 2OVER 2SWAP : ; < <# = > >BODY
+>IN >NUMBER >R ?DUP @ ABORT ABORT" ABS ACCEPT ALIGN ALIGNED ALLOT AND BASE BEGIN BL C! C, C@ CELL+ CELLS CHAR CHAR+
+CHARS CONSTANT COUNT CR CREATE DECIMAL DEPTH DO DOES> DROP DUP ELSE EMIT ENVIRONMENT? EVALUATE EXECUTE EXIT FILL FIND
+FM/MOD HERE HOLD I IF IMMEDIATE INVERT J KEY LEAVE LITERAL LOOP LSHIFT M* MAX MIN MOD MOVE NEGATE OR OVER POSTPONE QUIT
+R> R@ RECURSE REPEAT ROT RSHIFT S" S>D SIGN SM/REM SOURCE SPACE SPACES STATE SWAP THEN TYPE U. U< UM* UM/MOD UNLOOP
+UNTIL VARIABLE WHILE WORD XOR [ ['] [CHAR] ]
+"#;
+
+// What a line says of a word.
+#[derive(Clone, Copy)]
+struct Row<'a> {
+    name: &'a str,
+    stack: &'a str,
+    entry: WordEntry,
+    cells: &'a str,
+}
+
+fn class_in(text: &str) -> Option<Class> {
+    match text {
+        "inline" => Some(Class::Inline),
+        "library" => Some(Class::Library),
+        "structure" => Some(Class::Structure),
+        "host" => Some(Class::Host),
+        _ => None,
+    }
+}
+
+// A change that is one number or goes from one to another; `-` stands for none.
+fn exit_in(text: &str) -> Option<Option<(i8, i8)>> {
+    if text == "-" {
+        return Some(None);
+    }
+    let (low, high) = text.split_once(" to ").unwrap_or((text, text));
+    Some(Some((low.parse::<i8>().ok()?, high.parse::<i8>().ok()?)))
+}
+
+// A price that is one number, or a number and that for each of what the word counts.
+fn price_in(text: &str) -> Option<(u32, u32)> {
+    let (base, per) = text.split_once(" + ").unwrap_or((text, "0"));
+    Some((base.parse::<u32>().ok()?, per.parse::<u32>().ok()?))
+}
+
+fn row_in(line: &str) -> Option<Row<'_>> {
+    let mut fields = line.split('|');
+    fields.next()?;
+    let name = fields.next()?.trim_ascii().trim_matches('`');
+    let class = class_in(fields.next()?.trim_ascii())?;
+    let stack = fields.next()?;
+    let need = fields.next()?.trim_ascii().parse::<u8>().ok()?;
+    let exit = exit_in(fields.next()?.trim_ascii())?;
+    let peak = fields.next()?.trim_ascii().parse::<u8>().ok()?;
+    let back = fields.next()?.trim_ascii().parse::<u8>().ok()?;
+    let (base, per) = price_in(fields.next()?.trim_ascii())?;
+    let weight = fields.next()?.trim_ascii().parse::<u16>().ok()?;
+    let cells = fields.next()?;
+    let entry = WordEntry {
+        class,
+        need,
+        peak,
+        back,
+        exit,
+        base,
+        per,
+        weight,
+    };
+    Some(Row {
+        name,
+        stack,
+        entry,
+        cells,
+    })
+}
+
+// The cells on one side of a stack effect: a double is two.
+fn cells_named(side: &str) -> i8 {
+    let mut cells: i8 = 0;
+    for name in side.split_whitespace() {
+        let width = if name == "d" || name == "ud" { 2 } else { 1 };
+        cells = cells.wrapping_add(width);
+    }
+    cells
+}
+
+// Whether need and exit are what a stack effect shows. It shows no choice and no end, and is the host's where the class is.
+fn shows(stack: &str, entry: &WordEntry) -> bool {
+    let (before, after) = stack.split_once("--").unwrap_or(("", ""));
+    let takes = cells_named(before);
+    let change = cells_named(after).wrapping_sub(takes);
+    let is_shown = match entry.exit {
+        Some((low, high)) => low != high || low == change,
+        None => true,
+    };
+    entry.class == Class::Host || (i16::from(entry.need) == i16::from(takes) && is_shown)
+}
+
+#[test]
+fn agrees_with_the_tables(rt: HostRuntime) -> Result<(), Fail> {
+    let alloc = rt.alloc();
+    let mut words = Vec::new(alloc);
+    for line in TABLE.trim_ascii().lines() {
+        let row = row_in(line).ok_or(line)?;
+        let word = word_of(row.name).ok_or(line)?;
+        let cells = cells_in(alloc, row.cells, 16)?;
+        assert_eq!(rt; entry(word), row.entry, "{line}");
+        assert_eq!(rt; plain_cells(word), cells.as_slice(), "{line}");
+        assert!(rt; shows(row.stack, &row.entry), "{line}");
+        assert!(rt; !words.as_slice().contains(&word), "{line}");
+        words.push(word)?;
+    }
+    assert_eq!(rt; words.len(), 125);
+    Ok(())
+}
+
+// Nine words of the set are none of a source.
+#[test]
+fn names_the_core_words(rt: HostRuntime) -> Result<(), Fail> {
+    let mut others = String::new(rt.alloc());
+    for name in CORE.split_whitespace() {
+        if word_of(name).is_none() {
+            others.push_str(name)?;
+            others.push(' ')?;
+        }
+    }
+    let wanted = ">IN ENVIRONMENT? EVALUATE FIND IMMEDIATE POSTPONE SOURCE STATE WORD ";
+    assert_eq!(rt; others.as_str(), wanted);
+    for name in "NIP TUCK HEX MAIN DUP2".split_whitespace() {
+        assert!(rt; word_of(name).is_none(), "{name}");
+    }
+    Ok(())
+}
