@@ -8,4 +8,5 @@ pub mod Counting
 pub mod Turning
 pub mod Wanting
 pub mod Running
+pub mod Driving
 pub mod Bytes

@@ -1,12 +1,14 @@
 -- What a driven machine, its console and its output stand for.
 -- `None` in place of bytes means that an object does not tell its bytes.
-use Rattle.std.specs.Prelude.{ℕ, zero, suc, ◌≡◌, ◌^◌, nat_lt, Bool, ◌&&◌, IsTrue, ℤ, pos, negsuc, List, [], ◌∷◌, ◌++◌, Option, Some, None, option_map, ⊤, IfSome}
+use Rattle.std.specs.Prelude.{ℕ, zero, suc, ◌≡◌, ◌≤◌, ◌^◌, nat_lt, Bool, ◌&&◌, IsTrue, ℤ, pos, negsuc, List, [], ◌∷◌, ◌++◌, Option, Some, None, option_map, ⊤, Result, Ok, Err}
 use Rattle.j1_simulator.specs.declared.ends.Event.{Event}
 use Rattle.j1_simulator.specs.declared.ends.End.{End}
 use Rattle.j1_simulator.specs.declared.ends.Event.TheVariants.{Went, Printed, WantsByte}
 use Rattle.j1_simulator.specs.declared.ends.Event.TheVariants as events
 use Rattle.j1_simulator.specs.declared.ends.Finish.{Finish}
 use Rattle.j1_simulator.specs.declared.ends.Finish.TheVariants.{Ended, StepsUsed}
+use Rattle.j1_simulator.specs.declared.ends.DriveError.{DriveError}
+use Rattle.j1_simulator.specs.declared.ends.DriveError.TheVariants.{Write}
 use Rattle.j1_simulator.specs.Step.{By}
 use Rattle.j1_simulator.specs.RoundMachine.{RingCells, round_storage}
 use Rattle.j1_simulator.specs.MachineState.{MachineState, Depths}
@@ -36,14 +38,17 @@ counters_fit configuration = in_64_bits configuration.data_depth && in_64_bits c
 abbrev pub depths_of : Configuration ℕ RingCells → Depths
 depths_of configuration = record { data_depth = configuration.data_depth; return_depth = configuration.return_depth }
 
--- a machine, its console and its output stand at this moment of a run;
+-- a machine stands at this moment of a run;
 -- the held depths are the counters, where `fits` says that these have been 64-bit integers all the time
-pub record IsAt (configuration : Configuration ℕ RingCells) (fits : Bool) (machine : MachineState) (data_start : ℕ) (left before now : Option (List ℕ)) (buffer : List ℕ) : Type 0 where
+pub record StandsAt (configuration : Configuration ℕ RingCells) (fits : Bool) (machine : MachineState) (data_start : ℕ) : Type 0 where
   pub core : machine.core ≡ configuration.core
   pub start_is : machine.data_start ≡ data_start
-  pub given : machine.given ≡ None
   pub ended : option_map By machine.ended ≡ configuration.stop
   pub depths : IsTrue fits → machine.depths ≡ depths_of configuration
+
+-- with its input and its output
+pub record IsAt (configuration : Configuration ℕ RingCells) (fits : Bool) (machine : MachineState) (data_start : ℕ) (left before now : Option (List ℕ)) (buffer : List ℕ) : Type 0 where
+  pub stands : StandsAt configuration fits machine data_start
   pub left_is : left ≡ Some configuration.input
   pub out : Holds before now buffer configuration.printed
 
@@ -75,9 +80,40 @@ ended_by Went = None
 ended_by WantsByte = None
 ended_by (Printed byte) = None
 
--- a fact on the input, for a machine that was given no byte by hand and a console that tells its bytes
-abbrev pub WhereTold : MachineState → Option (List ℕ) → (List ℕ → Type 0) → Type 0
-WhereTold machine left Fact = machine.given ≡ None → IfSome left Fact
+-- the input of a run: the byte that was given by hand, where there is one, and then the console's bytes;
+-- none where it was told by hand that there is none
+abbrev pub input_for : Option (Option ℕ) → List ℕ → List ℕ
+input_for None bytes = bytes
+input_for (Some (Some byte)) bytes = byte ∷ bytes
+input_for (Some None) bytes = []
+
+-- what was given by hand, after n instructions: the first one uses it
+abbrev pub given_after : ℕ → Option (Option ℕ) → Option (Option ℕ)
+given_after zero given = given
+given_after (suc n) given = None
+
+-- what is left of the input of a run after n instructions, by what was given by hand at its start and by the console's bytes now
+abbrev pub left_of : Option (Option ℕ) → ℕ → Option (List ℕ) → Option (List ℕ)
+left_of None n left = left
+left_of (Some (Some byte)) zero left = option_map (λ bytes. byte ∷ bytes) left
+left_of (Some (Some byte)) (suc n) left = left
+left_of (Some None) n left = Some []
+
+-- an old machine, whose console had these bytes, has come to this moment by n instructions of its run
+abbrev pub IsDriven : MachineState → ℕ → List ℕ → MachineState → Option (List ℕ) → Option (List ℕ) → Option (List ℕ) → List ℕ → Type 0
+IsDriven old n bytes new left before now buffer =
+    IsAt (driven old n (input_for old.given bytes)) (driven_fits old n (input_for old.given bytes)) new old.data_start (left_of old.given n left) before now buffer
+
+-- the machine has made at most n instructions of its run on some bytes of the console, all n where the answer is StepsUsed;
+-- what they printed stands in out, where it tells its bytes, or a beginning of it after a failed write
+pub record MadeAtMost (n : ℕ) (result : Result Finish DriveError) (old new : MachineState) (before now : Option (List ℕ)) : Type 0 where
+  pub made : ℕ
+  pub within : made ≤ n
+  pub all : result ≡ Ok StepsUsed → made ≡ n
+  pub bytes : List ℕ
+  pub stands : StandsAt (driven old made (input_for old.given bytes)) (driven_fits old made (input_for old.given bytes)) new old.data_start
+  pub written : (result ≡ Err Write → ⊥) → Holds before now [] (driven old made (input_for old.given bytes)).printed
+  pub front : HoldsFront before now (driven old made (input_for old.given bytes)).printed
 
 -- a machine that had ended has that end still
 abbrev pub KeepsEnd : MachineState → MachineState → Type 0

@@ -34,15 +34,15 @@ WantsExactly = (machine new : MachineState) (event : Event) → Steps machine.en
 abbrev pub StepIsInstruction : Type 0
 StepIsInstruction =
     (from : Configuration ℕ RingCells) (fits : Bool) (machine new : MachineState) (event : Event) (data_start : ℕ) (left before now : Option (List ℕ)) (buffer : List ℕ) →
-    IsAt from fits machine data_start left before now buffer → Steps machine.ended event machine new → (event ≡ WantsByte → ⊥) →
-    IsAt (advance data_start from) (fits && counters_fit (advance data_start from)) new data_start left before now (buffer ++ told event)
+    IsAt from fits machine data_start left before now buffer → machine.given ≡ None → Steps machine.ended event machine new → (event ≡ WantsByte → ⊥) →
+    IsAt (advance data_start from) (fits && counters_fit (advance data_start from)) new data_start left before now (buffer ++ told event) × (new.given ≡ None)
 
 -- the step after a byte was given takes that byte from the input of the run
 abbrev pub GivenStepIsInstruction : Type 0
 GivenStepIsInstruction =
     (from : Configuration ℕ RingCells) (fits : Bool) (machine given new : MachineState) (byte : Option ℕ) (event : Event) (data_start : ℕ) (input : List ℕ) (before now : Option (List ℕ)) (buffer : List ℕ) →
     IsAt from fits machine data_start (Some input) before now buffer → WantsAByte machine → given ≡ record machine { given = Some byte } → byte ≡ slice_get input 0 → Steps given.ended event given new →
-    IsAt (advance data_start from) (fits && counters_fit (advance data_start from)) new data_start (Some (drop 1 input)) before now (buffer ++ told event)
+    IsAt (advance data_start from) (fits && counters_fit (advance data_start from)) new data_start (Some (drop 1 input)) before now (buffer ++ told event) × (new.given ≡ None)
 
 -- 32 cells, and a pointer to one of them
 pub record IsRing (ring : RingCells) : Type 0 where

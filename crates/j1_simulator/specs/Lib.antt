@@ -6,4 +6,5 @@ pub mod OpenMachine
 pub mod Run
 pub mod MachineState
 pub mod Drive
+pub mod Turn
 pub mod Laws

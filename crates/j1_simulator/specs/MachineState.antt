@@ -128,3 +128,7 @@ pub record WantsAByte (state : MachineState) : Type 0 where
   pub running : state.ended ≡ None
   pub not_given : state.given ≡ None
   pub taking : IsTaking (step round_storage state.data_start state.core)
+
+-- what was given is for the next instruction: without it the machine wants a byte
+abbrev pub GivenIsDue : MachineState → Type 0
+GivenIsDue state = (key : Option ℕ) → state.given ≡ Some key → WantsAByte (record state { given = None })

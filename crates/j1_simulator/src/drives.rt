@@ -1,11 +1,11 @@
 // Whole runs over a console and an output.
 ghost use Rattle.std.specs.Prelude.{ℕ, Bool, ◌&&◌, List, Option, ◌≡◌, ◌≤◌, ◌<◌, slice_get, length, [], ◌++◌, drop, option_map, OnOk, OnErr, IfSome, MatchResult, IfOk};
 ghost use Rattle.outside_io.specs.Causes.{Rose, HasCause};
-ghost use Rattle.j1_simulator.specs.Run.{Configuration, advance};
+ghost use Rattle.j1_simulator.specs.Run.{Configuration};
 ghost use Rattle.j1_simulator.specs.RoundMachine.{RingCells};
-ghost use Rattle.j1_simulator.specs.Step.{By};
 ghost use Rattle.j1_simulator.specs.MachineState.{WantsAByte};
-ghost use Rattle.j1_simulator.specs.Drive.{Holds, HoldsFront, IsAt, told, ended_by, counters_fit, driven, driven_fits, WhereTold, end_told, KeepsEnd};
+ghost use Rattle.j1_simulator.specs.Drive.{Holds, HoldsFront, IsAt, told, ended_by, driven, input_for, given_after, IsDriven, MadeAtMost, end_told, KeepsEnd};
+ghost use Rattle.j1_simulator.specs.Turn.{LeftAfter, IsTaken, TurnEnds};
 
 use crate::buffers::Buffer;
 use crate::ends::{DriveError, End, Event, Finish};
@@ -73,19 +73,14 @@ fn turn<C: Source, O: Sink>(
     ensures over { KeepsEnd machine.old machine.new }
     ensures wants { result ≡ Err DriveError.Read → WantsAByte machine.new }
 
-    ensures run { (configuration : Configuration ℕ RingCells) (fits : Bool) (data_start : ℕ) (before : Option (List ℕ)) →
-        IsAt configuration fits machine.old data_start (C.left console.old) before (O.held out.old) buffer.old →
-        OnOk result (IsAt (advance data_start configuration) (fits && counters_fit (advance data_start configuration)) machine.new data_start (C.left console.new) before (O.held out.new) buffer.new) }
+    ensures kept { result ≡ Err DriveError.Read → machine.new ≡ machine.old }
+    ensures given { machine.new.given ≡ None }
+    ensures quiet { (WantsAByte machine.old → ⊥) → console.new ≡ console.old }
 
-    ensures read { (configuration : Configuration ℕ RingCells) (fits : Bool) (data_start : ℕ) (before : Option (List ℕ)) →
-        IsAt configuration fits machine.old data_start (C.left console.old) before (O.held out.old) buffer.old →
-        result ≡ Err DriveError.Read →
-        IsAt configuration fits machine.new data_start (C.left console.new) before (O.held out.new) [] }
-
-    ensures write { (configuration : Configuration ℕ RingCells) (fits : Bool) (data_start : ℕ) (before : Option (List ℕ)) →
-        IsAt configuration fits machine.old data_start (C.left console.old) before (O.held out.old) buffer.old →
-        result ≡ Err DriveError.Write →
-        HoldsFront before (O.held out.new) (advance data_start configuration).printed }
+    ensures run { (taken : Option (Option ℕ)) × IsTaken machine.old machine.new taken (C.left console.old) (C.left console.new) ×
+        ((configuration : Configuration ℕ RingCells) (fits : Bool) (data_start : ℕ) (before left after : Option (List ℕ)) → LeftAfter taken left after →
+            IsAt configuration fits machine.old data_start left before (O.held out.old) buffer.old →
+            TurnEnds result configuration fits machine.new data_start after before (O.held out.new) buffer.new) }
 {
     match machine.step() {
         Event::WantsByte => {
@@ -107,7 +102,9 @@ fn turn<C: Source, O: Sink>(
 /// An error comes only where the count of faults of `console` or of `out` rose. After `Read` the machine still wants its
 /// byte, and all that was printed has been written. After `Write`, `out` holds a beginning of what was printed.
 ///
-/// The clauses `run`, `read` and `write` speak of a machine that has no byte given by hand that is not yet used.
+/// The input of the run is the byte given by hand, where there is one that is not yet used, and then the bytes of the console;
+/// where it was told by hand that there is none left, it is empty, and the console is left alone. The clauses `run`, `read`
+/// and `write` speak of a console that tells its bytes, `at_most` of every console.
 pub fn drive<C: Source, O: Sink>(
     machine: &mut Machine,
     n: u64,
@@ -115,8 +112,12 @@ pub fn drive<C: Source, O: Sink>(
     out: &mut O,
 ) -> Result<Finish, DriveError>
     // The machine, the input left and the output are those of the run after n instructions.
-    ensures run { WhereTold machine.old (C.left console.old) (λ input.
-        OnOk result (IsAt (driven machine.old n input) (driven_fits machine.old n input) machine.new machine.old.data_start (C.left console.new) (O.held out.old) (O.held out.new) [])) }
+    ensures run { IfSome (C.left console.old) (λ bytes.
+        OnOk result (IsDriven machine.old n bytes machine.new (C.left console.new) (O.held out.old) (O.held out.new) [])) }
+    ensures at_most { MadeAtMost n result machine.old machine.new (O.held out.old) (O.held out.new) }
+    // The first instruction uses what was given by hand.
+    ensures given { machine.new.given ≡ given_after n machine.old.given }
+    ensures by_hand { machine.old.given ≡ Some None → console.new ≡ console.old }
     // The answer is the end of the machine, and one that had ended before has its end still. After Read it wants its byte.
     ensures finish { IfOk result (λ finish. end_told finish ≡ machine.new.ended) }
     ensures over { KeepsEnd machine.old machine.new }
@@ -127,10 +128,10 @@ pub fn drive<C: Source, O: Sink>(
     ensures console_faults { C.faults console.old ≤ C.faults console.new }
     ensures out_faults { O.faults out.old ≤ O.faults out.new }
 
-    ensures read { WhereTold machine.old (C.left console.old) (λ input. result ≡ Err DriveError.Read →
-        (k : ℕ) × (k < n) × IsAt (driven machine.old k input) (driven_fits machine.old k input) machine.new machine.old.data_start (C.left console.new) (O.held out.old) (O.held out.new) []) }
-    ensures write { WhereTold machine.old (C.left console.old) (λ input. result ≡ Err DriveError.Write →
-        HoldsFront (O.held out.old) (O.held out.new) (driven machine.old n input).printed) }
+    ensures read { IfSome (C.left console.old) (λ bytes. result ≡ Err DriveError.Read →
+        (k : ℕ) × (k < n) × IsDriven machine.old k bytes machine.new (C.left console.new) (O.held out.old) (O.held out.new) []) }
+    ensures write { IfSome (C.left console.old) (λ bytes. result ≡ Err DriveError.Write →
+        HoldsFront (O.held out.old) (O.held out.new) (driven machine.old n (input_for machine.old.given bytes)).printed) }
 {
     let mut buffer = Buffer::new();
     for _made in 0..n {

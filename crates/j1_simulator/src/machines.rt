@@ -1,6 +1,6 @@
 // Machines that are given their input byte by byte.
 ghost use Rattle.std.specs.Prelude.{◌≡◌, IfOk};
-ghost use Rattle.j1_simulator.specs.MachineState.{key_of, EndsBy, event_of, end_of, started, Steps, WantsAByte};
+ghost use Rattle.j1_simulator.specs.MachineState.{key_of, EndsBy, event_of, end_of, started, Steps, WantsAByte, GivenIsDue};
 
 use crate::counters::Depths;
 use crate::cpu::Cpu;
@@ -26,11 +26,13 @@ pub struct Machine {
 }
 
 impl Model for Machine {
-    ghost use Rattle.j1_simulator.specs.MachineState.{MachineState};
+    ghost use Rattle.j1_simulator.specs.MachineState.{MachineState, GivenIsDue};
 
     ghost Value = { MachineState };
 
     ghost view = { λ m. record { core = m.cpu; data_start = m.fence.data_start; given = m.given; depths = m.depths; ended = m.ended } };
+
+    ghost invariant = { λ m. GivenIsDue (record { core = m.cpu; data_start = m.fence.data_start; given = m.given; depths = m.depths; ended = m.ended }) };
 }
 
 // What a step that goes on answers.
@@ -95,8 +97,11 @@ impl Machine {
     /// stacks is written at the new pointers. An access outside data space and the ports ends the run and changes nothing
     /// else. `WantsByte` comes exactly where the next instruction takes a byte and none was given; the machine is then
     /// unchanged. From the step that ends the run on, each step answers that same end and changes nothing.
+    ///
+    /// A byte that was given is always for the next instruction (`due`).
     pub fn step(&mut self) -> Event
-        ensures { Steps self.old.ended result self.old self.new }
+        ensures step { Steps self.old.ended result self.old self.new }
+        ensures due { GivenIsDue self.old }
     {
         if let Some(end) = self.ended {
             return Event::Ended(end);

@@ -14,7 +14,7 @@ use Rattle.j1_simulator.specs.MachineState.{MachineState, started}
 use Rattle.j1_simulator.specs.Run.{round_run, round_start, begun, IsPrefixOf}
 use Rattle.j1_simulator.specs.RoundMachine.{round_storage}
 use Rattle.j1_simulator.specs.Laws.{OnlyGrows}
-use Rattle.j1_simulator.specs.Drive.{Holds, HoldsFront, IsAt, driven, driven_fits, WhereTold, end_told}
+use Rattle.j1_simulator.specs.Drive.{Holds, HoldsFront, IsAt, driven, input_for, IsDriven, end_told}
 use Rattle.j1_workbench.specs.declared.status.Status.{Status}
 use Rattle.j1_workbench.specs.declared.status.Status.TheVariants.{ReadFault}
 use Rattle.j1_workbench.specs.Statuses.{status_of, halted_status}
@@ -29,7 +29,7 @@ all_written (Some old) (Some new) printed held = held.1 ∙ ap (λ l. old ++ l) 
 ran : (image : Content) (input : List ℕ) (steps : ℕ) (fits : Bool) (after : MachineState) (end : Option End) (status : Status) (left before now : Option (List ℕ)) →
     IsAt (round_run image input steps) fits after image.data_start left before now [] → end ≡ after.ended → status ≡ status_of end → RanAs image input steps status left before now
 ran image input steps fits after end status left before now at same is =
-    record { end = after.ended; end_is = at.ended; status_is = is ∙ ap status_of same; left_is = at.left_is; printed = all_written before now _ at.out }
+    record { end = after.ended; end_is = at.stands.ended; status_is = is ∙ ap status_of same; left_is = at.left_is; printed = all_written before now _ at.out }
 
 some_is : {A : Type 0} (x y : A) → Some x ≡ Some y → x ≡ y
 some_is x y e = cc
@@ -59,15 +59,15 @@ front_of_nothing (Some old) (Some new) all same = ([], some_is new old same ∙ 
 
 -- what an Ok, a failed read and a failed write say
 abbrev pub OkSays : ℕ → MachineState → MachineState → Result Finish DriveError → Option (List ℕ) → Option (List ℕ) → Option (List ℕ) → List ℕ → Type 0
-OkSays steps machine after result left_now before now input =
-    OnOk result (IsAt (driven machine steps input) (driven_fits machine steps input) after machine.data_start left_now before now [])
+OkSays steps machine after result left_now before now bytes =
+    OnOk result (IsDriven machine steps bytes after left_now before now [])
 
 abbrev pub ReadSays : ℕ → MachineState → MachineState → Result Finish DriveError → Option (List ℕ) → Option (List ℕ) → Option (List ℕ) → List ℕ → Type 0
-ReadSays steps machine after result left_now before now input =
-    result ≡ Err Read → (k : ℕ) × (k < steps) × IsAt (driven machine k input) (driven_fits machine k input) after machine.data_start left_now before now []
+ReadSays steps machine after result left_now before now bytes =
+    result ≡ Err Read → (k : ℕ) × (k < steps) × IsDriven machine k bytes after left_now before now []
 
 abbrev pub WriteSays : ℕ → MachineState → Result Finish DriveError → Option (List ℕ) → Option (List ℕ) → List ℕ → Type 0
-WriteSays steps machine result before now input = result ≡ Err Write → HoldsFront before now (driven machine steps input).printed
+WriteSays steps machine result before now bytes = result ≡ Err Write → HoldsFront before now (driven machine steps (input_for machine.given bytes)).printed
 
 leaves : (image : Content) (input : List ℕ) (steps : ℕ) (after : MachineState) (result : Result Finish DriveError) (status : Status) (left before now : Option (List ℕ)) →
     OnlyGrows round_storage →
@@ -86,15 +86,15 @@ leaves image input steps after (Err Write) status left before now grows at read 
 -- a drive from the start, over a console that may tell its bytes
 pub drives_leave : (image : Content) (steps : ℕ) (machine after : MachineState) (result : Result Finish DriveError) (status : Status) (left left_now before now : Option (List ℕ)) →
     OnlyGrows round_storage → machine ≡ started image →
-    WhereTold machine left (OkSays steps machine after result left_now before now) → WhereTold machine left (ReadSays steps machine after result left_now before now) → WhereTold machine left (WriteSays steps machine result before now) →
+    IfSome left (OkSays steps machine after result left_now before now) → IfSome left (ReadSays steps machine after result left_now before now) → IfSome left (WriteSays steps machine result before now) →
     IfOk result (λ finish. end_told finish ≡ after.ended) → status ≡ status_after result →
     IfSome left (λ input. RunLeaves image input steps status left_now before now)
 drives_leave image steps machine after result status None left_now before now grows begins run read write same is = tt
 drives_leave image steps machine after result status (Some input) left_now before now grows begins run read write same is =
-    let run' = subst (λ m. WhereTold m (Some input) (OkSays steps m after result left_now before now)) begins run in
-    let read' = subst (λ m. WhereTold m (Some input) (ReadSays steps m after result left_now before now)) begins read in
-    let write' = subst (λ m. WhereTold m (Some input) (WriteSays steps m result before now)) begins write in
-    leaves image input steps after result status left_now before now grows (run' refl) (read' refl) (write' refl) same is
+    let run' = subst (λ m. OkSays steps m after result left_now before now input) begins run in
+    let read' = subst (λ m. ReadSays steps m after result left_now before now input) begins read in
+    let write' = subst (λ m. WriteSays steps m result before now input) begins write in
+    leaves image input steps after result status left_now before now grows run' read' write' same is
 
 -- a call that failed before its run
 pub failed_leaves : (image : Content) (steps : ℕ) (left held : Option (List ℕ)) → IfSome left (λ input. RunLeaves image input steps ReadFault left held held)

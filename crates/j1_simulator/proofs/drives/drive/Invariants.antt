@@ -1,5 +1,7 @@
-use Rattle.std.proofs.Common.{◌≤◌, ◌<◌, length}
-use Rattle.j1_simulator.specs.Drive.{IsAt, driven, driven_fits, KeepsEnd, WhereTold}
+use Rattle.std.proofs.Common.{◌≡◌, ◌≤◌, ◌<◌, length}
+use Rattle.std.specs.Prelude.{Some, None}
+use Rattle.j1_simulator.specs.Drive.{KeepsEnd}
+use Rattle.j1_simulator.proofs.Driving.{Underway}
 use Rattle.j1_simulator.proofs.drives.drive.Given as goal
 
 abbrev pub invariant-loop-made : goal.invariant-loop-made
@@ -10,5 +12,6 @@ invariant-loop-made g l =
       out_faults : g.O.Sink.faults l.initial.out ≤ g.O.Sink.faults l.out;
       over : KeepsEnd l.initial.machine l.machine;
       within : l._made ≤ l.n;
-      at : WhereTold l.initial.machine (g.C.Source.left l.initial.console) (λ input. IsAt (driven l.initial.machine l._made input) (driven_fits l.initial.machine l._made input) l.machine l.initial.machine.data_start (g.C.Source.left l.console) (g.O.Sink.held l.initial.out) (g.O.Sink.held l.out) l.buffer);
+      quiet : l.initial.machine.given ≡ Some None → l.console ≡ l.initial.console;
+      at : Underway l.initial.machine (g.C.Source.left l.initial.console) l._made l.machine (g.C.Source.left l.console) (g.O.Sink.held l.initial.out) (g.O.Sink.held l.out) l.buffer;
     }

@@ -1,0 +1,266 @@
+-- What a drive keeps from one instruction to the next.
+use Rattle.std.proofs.Common.{◌≡◌, ◌⊎◌, ℕ, zero, suc, ◌+◌, ◌≤◌, List, [], ◌∷◌, ◌++◌, drop, Option, Some, None, refl, sym, ap, ◌∙◌, subst, inl, inr, ⊎_elim, arith, add-one, append_assoc}
+use Rattle.std.specs.Prelude.{Bool, ◌&&◌, IsTrue, IfSome, option_map, slice_get, Result, Ok, Err}
+use Rattle.std.proofs.lemmas.List.{append-nil}
+use Rattle.std.specs.Io.KnownBytes.{Appends}
+use Rattle.outside_io.specs.Bytes.{AppendsFront}
+use Rattle.j1_simulator.specs.declared.ends.End.{End}
+use Rattle.j1_simulator.specs.declared.ends.End.TheVariants.{InputEnded}
+use Rattle.j1_simulator.specs.declared.ends.Finish.{Finish}
+use Rattle.j1_simulator.specs.declared.ends.Finish.TheVariants.{StepsUsed}
+use Rattle.j1_simulator.specs.declared.ends.DriveError.{DriveError}
+use Rattle.j1_simulator.specs.declared.ends.DriveError.TheVariants.{Read, Write}
+use Rattle.j1_simulator.specs.Step.{By}
+use Rattle.j1_simulator.specs.RoundMachine.{RingCells, round_storage}
+use Rattle.j1_simulator.specs.MachineState.{MachineState, WantsAByte}
+use Rattle.j1_simulator.specs.Run.{Configuration, advance}
+use Rattle.j1_simulator.specs.Drive.{Holds, HoldsFront, StandsAt, IsAt, driven, driven_fits, going_on, counters_fit, input_for, given_after, left_of, IsDriven, MadeAtMost, KeepsEnd}
+use Rattle.j1_simulator.specs.Turn.{LeftAfter, ComesFrom, IsTaken, TurnEnds}
+use Rattle.j1_simulator.proofs.Holding.{holds_flushed, holds_front}
+use Rattle.j1_simulator.proofs.Running.{run_suc, front_later, fits_before}
+use Rattle.j1_simulator.proofs.Growing.{run_over}
+use Rattle.j1_simulator.proofs.Wanting.{flushed, narrowed}
+
+-- what is left of the input is known before and after an instruction that takes nothing given by hand
+pub left_kept : (hand : Option (Option ℕ)) (k j : ℕ) (taken : Option (Option ℕ)) (left after : Option (List ℕ)) → None ≡ given_after k hand → k ≤ j → (hand ≡ Some None → taken ≡ None) → LeftAfter taken left after → LeftAfter taken (left_of hand k left) (left_of hand j after)
+left_kept None k j taken left after g le n l = l
+left_kept (Some None) k j taken left after g le n l = subst (λ t. LeftAfter t (Some []) (Some [])) (sym (n refl)) refl
+left_kept (Some (Some byte)) zero j taken left after g le n l = cc
+left_kept (Some (Some byte)) (suc k) zero taken left after g le n l = absurd (omega arith)
+left_kept (Some (Some byte)) (suc k) (suc j) taken left after g le n l = l
+
+first_taken : (byte : ℕ) (left : Option (List ℕ)) → LeftAfter (Some (Some byte)) (option_map (λ bytes. byte ∷ bytes) left) left
+first_taken byte None = tt
+first_taken byte (Some input) = (refl, refl)
+
+-- and by the one that takes it
+left_used : (hand : Option (Option ℕ)) (k : ℕ) (byte : Option ℕ) (taken : Option (Option ℕ)) (left after : Option (List ℕ)) → Some byte ≡ given_after k hand → taken ≡ Some byte → after ≡ left → LeftAfter taken (left_of hand k left) (left_of hand (suc k) after)
+left_used None zero byte taken left after g t l = cc
+left_used (Some None) zero byte taken left after g t l =
+    let none : Some None ≡ taken = cc in
+    subst (λ t. LeftAfter t (Some []) (Some [])) none (refl, refl)
+left_used (Some (Some first)) zero byte taken left after g t l =
+    let same : Some (Some first) ≡ taken = cc in
+    subst (λ t. LeftAfter t (option_map (λ bytes. first ∷ bytes) left) after) same (subst (λ after. LeftAfter (Some (Some first)) (option_map (λ bytes. first ∷ bytes) left) after) (sym l) (first_taken first left))
+left_used hand (suc k) byte taken left after g t l = cc
+
+left_stepped : (given hand : Option (Option ℕ)) (k : ℕ) (taken : Option (Option ℕ)) (left after : Option (List ℕ)) → given ≡ given_after k hand → (hand ≡ Some None → given ≡ None → taken ≡ None) → ComesFrom given taken left after → LeftAfter taken (left_of hand k left) (left_of hand (suc k) after)
+left_stepped None hand k taken left after g n l = left_kept hand k (suc k) taken left after g (omega arith) (λ h. n h refl) l
+left_stepped (Some byte) hand k taken left after g n l = left_used hand k byte taken left after g l.0 l.1
+
+-- after k instructions from `first`, whose console told these bytes, and whatever the console tells, on some bytes
+pub record Underway (first : MachineState) (told : Option (List ℕ)) (k : ℕ) (machine : MachineState) (left before now : Option (List ℕ)) (buffer : List ℕ) : Type 0 where
+  pub given : machine.given ≡ given_after k first.given
+  pub by_hand : first.given ≡ Some None → (k ≡ 0) ⊎ (machine.ended ≡ Some InputEnded)
+  pub here : IfSome told (λ bytes. IsDriven first k bytes machine left before now buffer)
+  pub bytes : List ℕ
+  pub on : (rest : List ℕ) → (machine.ended ≡ Some InputEnded → rest ≡ []) → IsDriven first k (bytes ++ rest) machine (Some rest) before now buffer
+
+left_first : (given : Option (Option ℕ)) (bytes : List ℕ) → left_of given 0 (Some bytes) ≡ Some (input_for given bytes)
+left_first None bytes = refl
+left_first (Some None) bytes = refl
+left_first (Some (Some byte)) bytes = refl
+
+holds_nothing : (before : Option (List ℕ)) → Holds before before [] []
+holds_nothing None = tt
+holds_nothing (Some old) = ([], sym (append-nil old), refl)
+
+driven_none : (first : MachineState) (bytes : List ℕ) (before : Option (List ℕ)) → IsDriven first 0 bytes first (Some bytes) before before []
+driven_none first bytes before = record { stands = record { core = refl; start_is = refl; ended = refl; depths = λ f. refl }; left_is = left_first first.given bytes; out = holds_nothing before }
+
+told_none : (first : MachineState) (told before : Option (List ℕ)) → IfSome told (λ bytes. IsDriven first 0 bytes first told before before [])
+told_none first None before = tt
+told_none first (Some bytes) before = driven_none first bytes before
+
+-- before the first instruction
+pub begins : (first : MachineState) (told before : Option (List ℕ)) → Underway first told 0 first told before before []
+begins first told before = record { given = refl; by_hand = λ e. inl refl; here = told_none first told before; bytes = []; on = λ rest ended. driven_none first rest before }
+
+-- a machine that was told by hand that there is no byte asks for none
+none_asked : (taken : Option (Option ℕ)) (old : MachineState) (k : ℕ) (hand : Option (Option ℕ)) → old.given ≡ given_after k hand → (k ≡ 0) ⊎ (old.ended ≡ Some InputEnded) → ((byte : Option ℕ) → taken ≡ Some byte → WantsAByte (record old { given = None })) → hand ≡ Some None → old.given ≡ None → taken ≡ None
+none_asked None old k hand g b w h n = refl
+none_asked (Some byte) old k hand g b w h n =
+    ⊎_elim (λ e. let s : given_after k hand ≡ Some None = ap (λ k. given_after k hand) e ∙ h in cc) (λ e. let r : old.ended ≡ None = (w byte refl).running in cc) b
+
+-- an instruction of a turn
+abbrev pub Runs : Result (Option End) DriveError → MachineState → MachineState → Option (Option ℕ) → Option (List ℕ) → Option (List ℕ) → Option (List ℕ) → List ℕ → List ℕ → Type 0
+Runs result old new taken before now later buffer waiting =
+    (configuration : Configuration ℕ RingCells) (fits : Bool) (data_start : ℕ) (left after : Option (List ℕ)) → LeftAfter taken left after → IsAt configuration fits old data_start left before now buffer → TurnEnds result configuration fits new data_start after before later waiting
+
+driven_on : (first : MachineState) (k : ℕ) (bytes : List ℕ) (end : Option End) (old new : MachineState) (taken : Option (Option ℕ)) (left after before now later : Option (List ℕ)) (buffer waiting : List ℕ) → LeftAfter taken (left_of first.given k left) (left_of first.given (suc k) after) → Runs (Ok end) old new taken before now later buffer waiting → IsDriven first k bytes old left before now buffer → IsDriven first (suc k) bytes new after before later waiting
+driven_on first k bytes end old new taken left after before now later buffer waiting l runs a =
+    let w = driven first k (input_for first.given bytes) in
+    let fits = driven_fits first k (input_for first.given bytes) in
+    let next : driven first (suc k) (input_for first.given bytes) ≡ advance first.data_start w = run_suc k first.data_start (going_on first (input_for first.given bytes)) in
+    subst (λ x. IsAt x (fits && counters_fit x) new first.data_start (left_of first.given (suc k) after) before later waiting) (sym next) (runs w fits first.data_start _ _ l a)
+
+told_on : (told : Option (List ℕ)) (first : MachineState) (k : ℕ) (end : Option End) (old new : MachineState) (taken : Option (Option ℕ)) (left after before now later : Option (List ℕ)) (buffer waiting : List ℕ) → LeftAfter taken (left_of first.given k left) (left_of first.given (suc k) after) → Runs (Ok end) old new taken before now later buffer waiting → IfSome told (λ bytes. IsDriven first k bytes old left before now buffer) → IfSome told (λ bytes. IsDriven first (suc k) bytes new after before later waiting)
+told_on None first k end old new taken left after before now later buffer waiting l runs a = tt
+told_on (Some bytes) first k end old new taken left after before now later buffer waiting l runs a = driven_on first k bytes end old new taken left after before now later buffer waiting l runs a
+
+-- the moment before an instruction, with the byte that it takes among the bytes
+abbrev pub Before : MachineState → ℕ → List ℕ → MachineState → Option (Option ℕ) → Option (List ℕ) → Option (List ℕ) → Option (List ℕ) → List ℕ → Type 0
+Before first k bytes old taken after before now buffer =
+    (left : Option (List ℕ)) × LeftAfter taken (left_of first.given k left) (left_of first.given (suc k) after) × IsDriven first k bytes old left before now buffer
+
+before_by : (given taken : Option (Option ℕ)) (first old new : MachineState) (told : Option (List ℕ)) (k : ℕ) (left after before now : Option (List ℕ)) (buffer : List ℕ) → old.given ≡ given → Underway first told k old left before now buffer → IsTaken old new taken left after → KeepsEnd old new → (bytes : List ℕ) × ((rest : List ℕ) → (new.ended ≡ Some InputEnded → rest ≡ []) → Before first k (bytes ++ rest) old taken (Some rest) before now buffer)
+before_by (Some byte) taken first old new told k left after before now buffer g u t over =
+    let from : ComesFrom (Some byte) taken left after = subst (λ g. ComesFrom g taken left after) g t.from in
+    (u.bytes, λ rest ended. (Some rest, left_stepped (Some byte) first.given k taken (Some rest) (Some rest) (sym g ∙ u.given) (λ h n. cc) (from.0, refl), u.on rest (λ e. ended (over InputEnded e))))
+before_by None None first old new told k left after before now buffer g u t over =
+    (u.bytes, λ rest ended. (Some rest, left_stepped None first.given k None (Some rest) (Some rest) (sym g ∙ u.given) (λ h n. refl) refl, u.on rest (λ e. ended (over InputEnded e))))
+before_by None (Some None) first old new told k left after before now buffer g u t over =
+    (u.bytes, λ rest ended.
+    let none : rest ≡ [] = ended (t.none_left refl) in
+    subst (λ rest. Before first k (u.bytes ++ rest) old (Some None) (Some rest) before now buffer) (sym none)
+    (Some [], left_stepped None first.given k (Some None) (Some []) (Some []) (sym g ∙ u.given) (λ h n. none_asked (Some None) old k first.given u.given (u.by_hand h) t.wanted h g) (refl, refl), u.on [] (λ e. refl)))
+before_by None (Some (Some byte)) first old new told k left after before now buffer g u t over =
+    (u.bytes ++ byte ∷ [], λ rest ended.
+    subst (λ bytes. Before first k bytes old (Some (Some byte)) (Some rest) before now buffer) (sym (append_assoc u.bytes (byte ∷ []) rest))
+    (Some (byte ∷ rest), left_stepped None first.given k (Some (Some byte)) (Some (byte ∷ rest)) (Some rest) (sym g ∙ u.given) (λ h n. none_asked (Some (Some byte)) old k first.given u.given (u.by_hand h) t.wanted h g) (refl, refl), u.on (byte ∷ rest) (λ e. let r : old.ended ≡ None = (t.wanted (Some byte) refl).running in cc)))
+
+before_it : (taken : Option (Option ℕ)) (first old new : MachineState) (told : Option (List ℕ)) (k : ℕ) (left after before now : Option (List ℕ)) (buffer : List ℕ) → Underway first told k old left before now buffer → IsTaken old new taken left after → KeepsEnd old new → (bytes : List ℕ) × ((rest : List ℕ) → (new.ended ≡ Some InputEnded → rest ≡ []) → Before first k (bytes ++ rest) old taken (Some rest) before now buffer)
+before_it taken first old new told k left after before now buffer u t over = before_by old.given taken first old new told k left after before now buffer refl u t over
+
+-- the console's bytes before and after an instruction
+told_left : (taken : Option (Option ℕ)) (first old new : MachineState) (told : Option (List ℕ)) (k : ℕ) (left after before now : Option (List ℕ)) (buffer : List ℕ) → Underway first told k old left before now buffer → IsTaken old new taken left after → LeftAfter taken (left_of first.given k left) (left_of first.given (suc k) after)
+told_left taken first old new told k left after before now buffer u t =
+    left_stepped old.given first.given k taken left after u.given (λ h n. none_asked taken old k first.given u.given (u.by_hand h) t.wanted h n) t.from
+
+ends_by_hand : (taken : Option (Option ℕ)) (given : Option (Option ℕ)) (old new : MachineState) (k : ℕ) (left after : Option (List ℕ)) → old.given ≡ given_after k given → IsTaken old new taken left after → KeepsEnd old new → given ≡ Some None → (k ≡ 0) ⊎ (old.ended ≡ Some InputEnded) → new.ended ≡ Some InputEnded
+ends_by_hand taken given old new k left after g t over h b =
+    ⊎_elim (λ e.
+    let s : old.given ≡ Some None = g ∙ ap (λ k. given_after k given) e ∙ h in
+    let from : ComesFrom (Some None) taken left after = subst (λ g. ComesFrom g taken left after) s t.from in
+    t.none_left from.0) (λ e. over InputEnded e) b
+
+goes_on : (taken : Option (Option ℕ)) (end : Option End) (first old new : MachineState) (told : Option (List ℕ)) (k : ℕ) (left after before now later : Option (List ℕ)) (buffer waiting : List ℕ) → Underway first told k old left before now buffer → IsTaken old new taken left after → KeepsEnd old new → new.given ≡ None → Runs (Ok end) old new taken before now later buffer waiting → Underway first told (suc k) new after before later waiting
+goes_on taken end first old new told k left after before now later buffer waiting u t over g runs =
+    let b = before_it taken first old new told k left after before now buffer u t over in
+    record {
+      given = g;
+      by_hand = λ h. inr (ends_by_hand taken first.given old new k left after u.given t over h (u.by_hand h));
+      here = told_on told first k end old new taken left after before now later buffer waiting (told_left taken first old new told k left after before now buffer u t) runs u.here;
+      bytes = b.0;
+      on = λ rest ended. let x = b.1 rest ended in driven_on first k (b.0 ++ rest) end old new taken x.0 (Some rest) before now later buffer waiting x.1 runs x.2;
+    }
+
+-- after one more instruction
+pub drives_on : (taken : Option (Option ℕ)) (end : Option End) (first old new : MachineState) (told : Option (List ℕ)) (k : ℕ) (left after before now later : Option (List ℕ)) (buffer waiting : List ℕ) → Underway first told k old left before now buffer → IsTaken old new taken left after → KeepsEnd old new → new.given ≡ None → Runs (Ok end) old new taken before now later buffer waiting → Underway first told (k + 1) new after before later waiting
+drives_on taken end first old new told k left after before now later buffer waiting u t over g runs =
+    subst (λ k. Underway first told k new after before later waiting) (sym (add-one k)) (goes_on taken end first old new told k left after before now later buffer waiting u t over g runs)
+
+-- where bytes are told
+pub told_map : (told : Option (List ℕ)) (P Q : List ℕ → Type 0) → ((bytes : List ℕ) → P bytes → Q bytes) → IfSome told P → IfSome told Q
+told_map None P Q f h = tt
+told_map (Some bytes) P Q f h = f bytes h
+
+pub told_when : (told : Option (List ℕ)) (When : Type 0) (P Q : List ℕ → Type 0) → ((bytes : List ℕ) → P bytes → Q bytes) → (When → IfSome told P) → IfSome told (λ bytes. When → Q bytes)
+told_when None When P Q f h = tt
+told_when (Some bytes) When P Q f h = λ w. f bytes (h w)
+
+-- the moment after all that was printed has been written out
+pub flushed_here : (first : MachineState) (told : Option (List ℕ)) (k : ℕ) (machine : MachineState) (left before now later : Option (List ℕ)) (buffer : List ℕ) → Underway first told k machine left before now buffer → Appends now later buffer → IfSome told (λ bytes. IsDriven first k bytes machine left before later [])
+flushed_here first told k machine left before now later buffer u bytes =
+    told_map told (λ bytes. IsDriven first k bytes machine left before now buffer) (λ bytes. IsDriven first k bytes machine left before later [])
+    (λ input a. flushed (driven first k (input_for first.given input)) _ machine machine first.data_start _ before now later buffer a refl bytes) u.here
+
+left_later : (hand : Option (Option ℕ)) (k n : ℕ) (left : Option (List ℕ)) → suc k ≤ n → left_of hand (suc k) left ≡ left_of hand n left
+left_later None k n left le = refl
+left_later (Some None) k n left le = refl
+left_later (Some (Some byte)) k zero left le = absurd (omega arith)
+left_later (Some (Some byte)) k (suc n) left le = refl
+
+ended_on : (first : MachineState) (k n : ℕ) (machine : MachineState) (end : End) (bytes : List ℕ) (left before now : Option (List ℕ)) (buffer : List ℕ) → suc k ≤ n → machine.ended ≡ Some end → IsDriven first (suc k) bytes machine left before now buffer → IsDriven first n bytes machine left before now buffer
+ended_on first k n machine end bytes left before now buffer le e a =
+    let input = input_for first.given bytes in
+    let stop : (driven first (suc k) input).stop ≡ Some (By end) = sym a.stands.ended ∙ ap (option_map By) e in
+    let same : driven first n input ≡ driven first (suc k) input = run_over round_storage first.data_start (suc k) n (going_on first input) (By end) le stop in
+    let there = narrowed (driven first (suc k) input) (driven_fits first (suc k) input) (driven_fits first n input) machine first.data_start (left_of first.given (suc k) left) before now buffer (fits_before first (suc k) n input le) a in
+    subst (λ l. IsAt (driven first n input) (driven_fits first n input) machine first.data_start l before now buffer) (left_later first.given k n left le)
+    (subst (λ x. IsAt x (driven_fits first n input) machine first.data_start (left_of first.given (suc k) left) before now buffer) (sym same) there)
+
+-- a run that has ended is at the same moment later
+pub ended_here : (first : MachineState) (told : Option (List ℕ)) (k n : ℕ) (machine : MachineState) (end : End) (left before now : Option (List ℕ)) (buffer : List ℕ) → k + 1 ≤ n → machine.ended ≡ Some end → IfSome told (λ bytes. IsDriven first (k + 1) bytes machine left before now buffer) → IfSome told (λ bytes. IsDriven first n bytes machine left before now buffer)
+ended_here first told k n machine end left before now buffer le e h =
+    told_map told (λ bytes. IsDriven first (k + 1) bytes machine left before now buffer) (λ bytes. IsDriven first n bytes machine left before now buffer)
+    (λ bytes a. ended_on first k n machine end bytes left before now buffer (omega arith) e (subst (λ k. IsDriven first k bytes machine left before now buffer) (add-one k) a)) h
+
+-- what is in out after a failed flush
+pub front_here : (first : MachineState) (told : Option (List ℕ)) (k n : ℕ) (machine : MachineState) (left before now later : Option (List ℕ)) (buffer : List ℕ) → k ≤ n → Underway first told k machine left before now buffer → AppendsFront now later buffer → IfSome told (λ bytes. HoldsFront before later (driven first n (input_for first.given bytes)).printed)
+front_here first told k n machine left before now later buffer le u bytes =
+    told_map told (λ bytes. IsDriven first k bytes machine left before now buffer) (λ bytes. HoldsFront before later (driven first n (input_for first.given bytes)).printed)
+    (λ input a. front_later first k n (input_for first.given input) before later le (holds_front before now later buffer _ a.out bytes)) u.here
+
+-- all that was printed is a beginning of it
+holds_all : (before now : Option (List ℕ)) (printed : List ℕ) → Holds before now [] printed → HoldsFront before now printed
+holds_all None now printed h = tt
+holds_all (Some old) None printed h = absurd h
+holds_all (Some old) (Some new) printed h = (h.0, h.1, ([], h.2))
+
+-- at most n instructions, with all written out
+pub made_all : (n : ℕ) (result : Result Finish DriveError) (first : MachineState) (told : Option (List ℕ)) (k : ℕ) (machine : MachineState) (left before now later : Option (List ℕ)) (buffer : List ℕ) → k ≤ n → (result ≡ Ok StepsUsed → k ≡ n) → Underway first told k machine left before now buffer → Appends now later buffer → MadeAtMost n result first machine before later
+made_all n result first told k machine left before now later buffer le all u bytes =
+    let a = u.on [] (λ e. refl) in
+    let h : Holds before later [] (driven first k (input_for first.given (u.bytes ++ []))).printed = holds_flushed before now later buffer _ a.out bytes in
+    record { made = k; within = le; all = all; bytes = u.bytes ++ []; stands = a.stands; written = λ w. h; front = holds_all before later _ h }
+
+-- and where the last flush failed
+pub made_front : (n : ℕ) (result : Result Finish DriveError) (first : MachineState) (told : Option (List ℕ)) (k : ℕ) (machine : MachineState) (left before now later : Option (List ℕ)) (buffer : List ℕ) → k ≤ n → result ≡ Err Write → Underway first told k machine left before now buffer → AppendsFront now later buffer → MadeAtMost n result first machine before later
+made_front n result first told k machine left before now later buffer le failed u bytes =
+    let a = u.on [] (λ e. refl) in
+    record { made = k; within = le; all = λ e. cc; bytes = u.bytes ++ []; stands = a.stands; written = λ w. absurd (w failed); front = holds_front before now later buffer _ a.out bytes }
+
+stands_next : (first : MachineState) (k : ℕ) (input : List ℕ) (new : MachineState) → StandsAt (advance first.data_start (driven first k input)) (driven_fits first k input && counters_fit (advance first.data_start (driven first k input))) new first.data_start → StandsAt (driven first (suc k) input) (driven_fits first (suc k) input) new first.data_start
+stands_next first k input new s = subst (λ x. StandsAt x (driven_fits first k input && counters_fit x) new first.data_start) (sym (run_suc k first.data_start (going_on first input))) s
+
+front_next : (first : MachineState) (k : ℕ) (input : List ℕ) (before now : Option (List ℕ)) → HoldsFront before now (advance first.data_start (driven first k input)).printed → HoldsFront before now (driven first (suc k) input).printed
+front_next first k input before now h = subst (λ x. HoldsFront before now x.printed) (sym (run_suc k first.data_start (going_on first input))) h
+
+made_before : (error : DriveError) (n : ℕ) (result : Result Finish DriveError) (first : MachineState) (k : ℕ) (bytes : List ℕ) (old new : MachineState) (taken : Option (Option ℕ)) (after before now later : Option (List ℕ)) (buffer waiting : List ℕ) → suc k ≤ n → result ≡ Err error → Before first k bytes old taken after before now buffer → Runs (Err error) old new taken before now later buffer waiting → MadeAtMost n result first new before later
+made_before Read n result first k bytes old new taken after before now later buffer waiting le failed b runs =
+    let a = runs (driven first k (input_for first.given bytes)) (driven_fits first k (input_for first.given bytes)) first.data_start _ _ b.1 b.2 in
+    record { made = k; within = omega arith; all = λ e. cc; bytes = bytes; stands = a.stands; written = λ w. a.out; front = holds_all before later _ a.out }
+made_before Write n result first k bytes old new taken after before now later buffer waiting le failed b runs =
+    ⊎_elim
+    (λ s. record { made = k; within = omega arith; all = λ e. cc; bytes = bytes; stands = s.0; written = λ w. absurd (w failed); front = s.1 })
+    (λ s. record { made = suc k; within = le; all = λ e. cc; bytes = bytes; stands = stands_next first k (input_for first.given bytes) new s.0; written = λ w. absurd (w failed); front = front_next first k (input_for first.given bytes) before later s.1 })
+    (runs (driven first k (input_for first.given bytes)) (driven_fits first k (input_for first.given bytes)) first.data_start _ _ b.1 b.2)
+
+-- at most n instructions where a turn failed
+pub made_broken : (error : DriveError) (r : Result (Option End) DriveError) (taken : Option (Option ℕ)) (n : ℕ) (result : Result Finish DriveError) (first old new : MachineState) (told : Option (List ℕ)) (k : ℕ) (left after before now later : Option (List ℕ)) (buffer waiting : List ℕ) → k + 1 ≤ n → r ≡ Err error → result ≡ Err error → Underway first told k old left before now buffer → IsTaken old new taken left after → KeepsEnd old new → Runs r old new taken before now later buffer waiting → MadeAtMost n result first new before later
+made_broken error r taken n result first old new told k left after before now later buffer waiting le failed same u t over runs =
+    let b = before_it taken first old new told k left after before now buffer u t over in
+    made_before error n result first k (b.0 ++ []) old new taken (Some []) before now later buffer waiting (omega arith) same (b.1 [] (λ e. refl)) (subst (λ r. Runs r old new taken before now later buffer waiting) failed runs)
+
+-- the moment of a failed read
+pub read_here : (r : Result (Option End) DriveError) (taken : Option (Option ℕ)) (first old new : MachineState) (told : Option (List ℕ)) (k : ℕ) (left after before now later : Option (List ℕ)) (buffer waiting : List ℕ) → r ≡ Err Read → new ≡ old → WantsAByte new → Underway first told k old left before now buffer → IsTaken old new taken left after → Runs r old new taken before now later buffer waiting → IfSome told (λ bytes. IsDriven first k bytes new after before later [])
+read_here r taken first old new told k left after before now later buffer waiting failed same wants u t runs =
+    let none : old.given ≡ None = sym (ap (λ m. m.given) same) ∙ wants.not_given in
+    let from : LeftAfter taken left after = subst (λ g. ComesFrom g taken left after) none t.from in
+    let l : LeftAfter taken (left_of first.given k left) (left_of first.given k after) = left_kept first.given k k taken left after (sym none ∙ u.given) (omega arith) (λ h. none_asked taken old k first.given u.given (u.by_hand h) t.wanted h none) from in
+    let runs' : Runs (Err Read) old new taken before now later buffer waiting = subst (λ r. Runs r old new taken before now later buffer waiting) failed runs in
+    told_map told (λ bytes. IsDriven first k bytes old left before now buffer) (λ bytes. IsDriven first k bytes new after before later [])
+    (λ bytes a. runs' (driven first k (input_for first.given bytes)) (driven_fits first k (input_for first.given bytes)) first.data_start _ _ l a) u.here
+
+-- what is in out after a failed write
+pub write_here : (r : Result (Option End) DriveError) (taken : Option (Option ℕ)) (n : ℕ) (first old new : MachineState) (told : Option (List ℕ)) (k : ℕ) (left after before now later : Option (List ℕ)) (buffer waiting : List ℕ) → k + 1 ≤ n → r ≡ Err Write → Underway first told k old left before now buffer → IsTaken old new taken left after → Runs r old new taken before now later buffer waiting → IfSome told (λ bytes. HoldsFront before later (driven first n (input_for first.given bytes)).printed)
+write_here r taken n first old new told k left after before now later buffer waiting le failed u t runs =
+    let runs' : Runs (Err Write) old new taken before now later buffer waiting = subst (λ r. Runs r old new taken before now later buffer waiting) failed runs in
+    told_map told (λ bytes. IsDriven first k bytes old left before now buffer) (λ bytes. HoldsFront before later (driven first n (input_for first.given bytes)).printed)
+    (λ bytes a. ⊎_elim
+    (λ s. front_later first k n (input_for first.given bytes) before later (omega arith) s.1)
+    (λ s. front_later first (suc k) n (input_for first.given bytes) before later (omega arith) (front_next first k (input_for first.given bytes) before later s.1))
+    (runs' (driven first k (input_for first.given bytes)) (driven_fits first k (input_for first.given bytes)) first.data_start _ _ (told_left taken first old new told k left after before now buffer u t) a)) u.here
+
+-- a machine that was told by hand that there is no byte does not ask the console
+pub no_wish : (first : MachineState) (told : Option (List ℕ)) (k : ℕ) (machine : MachineState) (left before now : Option (List ℕ)) (buffer : List ℕ) → Underway first told k machine left before now buffer → first.given ≡ Some None → WantsAByte machine → ⊥
+no_wish first told k machine left before now buffer u h w =
+    ⊎_elim
+    (λ e. let given : machine.given ≡ Some None = u.given ∙ ap (λ k. given_after k first.given) e ∙ h in let none : machine.given ≡ None = w.not_given in cc)
+    (λ e. let running : machine.ended ≡ None = w.running in cc) (u.by_hand h)
+
+-- the moment after all instructions
+pub run_here : (first : MachineState) (told : Option (List ℕ)) (k n : ℕ) (machine : MachineState) (left before now later : Option (List ℕ)) (buffer : List ℕ) → k ≡ n → Underway first told k machine left before now buffer → Appends now later buffer → IfSome told (λ bytes. IsDriven first n bytes machine left before later [])
+run_here first told k n machine left before now later buffer e u bytes =
+    subst (λ k. IfSome told (λ bytes. IsDriven first k bytes machine left before later [])) e (flushed_here first told k machine left before now later buffer u bytes)

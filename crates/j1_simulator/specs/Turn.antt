@@ -1,0 +1,40 @@
+-- What one turn of a drive does: one instruction, with the question for its byte.
+use Rattle.std.specs.Prelude.{ℕ, ◌≡◌, ◌⊎◌, Bool, ◌&&◌, List, [], drop, Option, Some, None, IfSome, slice_get, Result, Ok, Err}
+use Rattle.j1_simulator.specs.declared.ends.End.{End}
+use Rattle.j1_simulator.specs.declared.ends.End.TheVariants.{InputEnded}
+use Rattle.j1_simulator.specs.declared.ends.DriveError.{DriveError}
+use Rattle.j1_simulator.specs.declared.ends.DriveError.TheVariants.{Read, Write}
+use Rattle.j1_simulator.specs.RoundMachine.{RingCells}
+use Rattle.j1_simulator.specs.MachineState.{MachineState, WantsAByte}
+use Rattle.j1_simulator.specs.Run.{Configuration, advance}
+use Rattle.j1_simulator.specs.Drive.{HoldsFront, StandsAt, IsAt, counters_fit}
+
+-- what is left of an input that is told, after an instruction that takes no byte, or that takes this one (or is told that there is none)
+abbrev pub LeftAfter : Option (Option ℕ) → Option (List ℕ) → Option (List ℕ) → Type 0
+LeftAfter None left after = IfSome left (λ input. after ≡ Some input)
+LeftAfter (Some byte) left after = IfSome left (λ input. (byte ≡ slice_get input 0) × (after ≡ Some (drop 1 input)))
+
+-- the byte that an instruction takes is the one that was given, or else the console's
+abbrev pub ComesFrom : Option (Option ℕ) → Option (Option ℕ) → Option (List ℕ) → Option (List ℕ) → Type 0
+ComesFrom None taken left after = LeftAfter taken left after
+ComesFrom (Some byte) taken left after = (taken ≡ Some byte) × (after ≡ left)
+
+-- a byte was taken, or it was told that there is none, only where the machine wanted one; the run ends where there is none
+pub record IsTaken (old new : MachineState) (taken : Option (Option ℕ)) (left after : Option (List ℕ)) : Type 0 where
+  pub from : ComesFrom old.given taken left after
+  pub wanted : (byte : Option ℕ) → taken ≡ Some byte → WantsAByte (record old { given = None })
+  pub none_left : taken ≡ Some None → new.ended ≡ Some InputEnded
+
+-- the machine stands at this moment, and a beginning of what was printed is in out
+abbrev pub StandsWritten : Configuration ℕ RingCells → Bool → MachineState → ℕ → Option (List ℕ) → Option (List ℕ) → Type 0
+StandsWritten configuration fits machine data_start before now = StandsAt configuration fits machine data_start × HoldsFront before now configuration.printed
+
+-- a turn from this moment has come to the next one, or broke off
+abbrev pub TurnEnds : Result (Option End) DriveError → Configuration ℕ RingCells → Bool → MachineState → ℕ → Option (List ℕ) → Option (List ℕ) → Option (List ℕ) → List ℕ → Type 0
+TurnEnds (Ok end) configuration fits new data_start left before now buffer =
+    IsAt (advance data_start configuration) (fits && counters_fit (advance data_start configuration)) new data_start left before now buffer
+TurnEnds (Err Read) configuration fits new data_start left before now buffer =
+    IsAt configuration fits new data_start left before now []
+TurnEnds (Err Write) configuration fits new data_start left before now buffer =
+    StandsWritten configuration fits new data_start before now
+    ⊎ StandsWritten (advance data_start configuration) (fits && counters_fit (advance data_start configuration)) new data_start before now
