@@ -1,6 +1,6 @@
 -- What a drive keeps from one instruction to the next.
-use Rattle.std.proofs.Common.{◌≡◌, ◌⊎◌, ℕ, zero, suc, ◌+◌, ◌≤◌, List, [], ◌∷◌, ◌++◌, drop, Option, Some, None, refl, sym, ap, ◌∙◌, subst, inl, inr, ⊎_elim, arith, add-one, append_assoc}
-use Rattle.std.specs.Prelude.{Bool, ◌&&◌, IsTrue, IfSome, option_map, slice_get, Result, Ok, Err}
+use Rattle.std.proofs.Common.{◌≡◌, ◌⊎◌, ℕ, zero, suc, ◌+◌, ◌<◌, ◌≤◌, List, [], ◌∷◌, ◌++◌, Option, Some, None, refl, sym, ap, ◌∙◌, subst, inl, inr, ⊎_elim, arith, add-one, append_assoc}
+use Rattle.std.specs.Prelude.{Bool, ◌&&◌, IfSome, option_map, Result, Ok, Err}
 use Rattle.std.proofs.lemmas.List.{append-nil}
 use Rattle.std.specs.Io.KnownBytes.{Appends}
 use Rattle.outside_io.specs.Bytes.{AppendsFront}
@@ -15,7 +15,7 @@ use Rattle.j1_simulator.specs.RoundMachine.{RingCells, round_storage}
 use Rattle.j1_simulator.specs.MachineState.{MachineState, WantsAByte}
 use Rattle.j1_simulator.specs.Run.{Configuration, advance}
 use Rattle.j1_simulator.specs.Drive.{Holds, HoldsFront, StandsAt, IsAt, driven, driven_fits, going_on, counters_fit, input_for, given_after, left_of, IsDriven, MadeAtMost, KeepsEnd}
-use Rattle.j1_simulator.specs.Turn.{LeftAfter, ComesFrom, IsTaken, TurnEnds}
+use Rattle.j1_simulator.specs.Turn.{LeftAfter, ComesFrom, IsTaken, TurnEnds, Turns}
 use Rattle.j1_simulator.proofs.Holding.{holds_flushed, holds_front}
 use Rattle.j1_simulator.proofs.Running.{run_suc, front_later, fits_before}
 use Rattle.j1_simulator.proofs.Growing.{run_over}
@@ -87,6 +87,9 @@ abbrev pub Runs : Result (Option End) DriveError → MachineState → MachineSta
 Runs result old new taken before now later buffer waiting =
     (configuration : Configuration ℕ RingCells) (fits : Bool) (data_start : ℕ) (left after : Option (List ℕ)) → LeftAfter taken left after → IsAt configuration fits old data_start left before now buffer → TurnEnds result configuration fits new data_start after before later waiting
 
+turn_runs : {result : Result (Option End) DriveError} {old new : MachineState} {left after now later : Option (List ℕ)} {buffer waiting : List ℕ} (t : Turns result old new left after now later buffer waiting) (before : Option (List ℕ)) → Runs result old new t.taken before now later buffer waiting
+turn_runs t before = λ configuration fits data_start input rest. t.ends configuration fits data_start before input rest
+
 driven_on : (first : MachineState) (k : ℕ) (bytes : List ℕ) (end : Option End) (old new : MachineState) (taken : Option (Option ℕ)) (left after before now later : Option (List ℕ)) (buffer waiting : List ℕ) → LeftAfter taken (left_of first.given k left) (left_of first.given (suc k) after) → Runs (Ok end) old new taken before now later buffer waiting → IsDriven first k bytes old left before now buffer → IsDriven first (suc k) bytes new after before later waiting
 driven_on first k bytes end old new taken left after before now later buffer waiting l runs a =
     let w = driven first k (input_for first.given bytes) in
@@ -109,15 +112,19 @@ before_by (Some byte) taken first old new told k left after before now buffer g 
     (u.bytes, λ rest ended. (Some rest, left_stepped (Some byte) first.given k taken (Some rest) (Some rest) (sym g ∙ u.given) (λ h n. cc) (from.0, refl), u.on rest (λ e. ended (over InputEnded e))))
 before_by None None first old new told k left after before now buffer g u t over =
     (u.bytes, λ rest ended. (Some rest, left_stepped None first.given k None (Some rest) (Some rest) (sym g ∙ u.given) (λ h n. refl) refl, u.on rest (λ e. ended (over InputEnded e))))
-before_by None (Some None) first old new told k left after before now buffer g u t over =
-    (u.bytes, λ rest ended.
-    let none : rest ≡ [] = ended (t.none_left refl) in
-    subst (λ rest. Before first k (u.bytes ++ rest) old (Some None) (Some rest) before now buffer) (sym none)
-    (Some [], left_stepped None first.given k (Some None) (Some []) (Some []) (sym g ∙ u.given) (λ h n. none_asked (Some None) old k first.given u.given (u.by_hand h) t.wanted h g) (refl, refl), u.on [] (λ e. refl)))
-before_by None (Some (Some byte)) first old new told k left after before now buffer g u t over =
-    (u.bytes ++ byte ∷ [], λ rest ended.
-    subst (λ bytes. Before first k bytes old (Some (Some byte)) (Some rest) before now buffer) (sym (append_assoc u.bytes (byte ∷ []) rest))
-    (Some (byte ∷ rest), left_stepped None first.given k (Some (Some byte)) (Some (byte ∷ rest)) (Some rest) (sym g ∙ u.given) (λ h n. none_asked (Some (Some byte)) old k first.given u.given (u.by_hand h) t.wanted h g) (refl, refl), u.on (byte ∷ rest) (λ e. let r : old.ended ≡ None = (t.wanted (Some byte) refl).running in cc)))
+before_by None (Some None) first old new told k left after before now buffer g u t over = (
+  u.bytes,
+  λ rest ended.
+      let none : rest ≡ [] = ended (t.none_left refl) in
+      subst (λ rest. Before first k (u.bytes ++ rest) old (Some None) (Some rest) before now buffer) (sym none)
+      (Some [], left_stepped None first.given k (Some None) (Some []) (Some []) (sym g ∙ u.given) (λ h n. none_asked (Some None) old k first.given u.given (u.by_hand h) t.wanted h g) (refl, refl), u.on [] (λ e. refl)),
+)
+before_by None (Some (Some byte)) first old new told k left after before now buffer g u t over = (
+  u.bytes ++ byte ∷ [],
+  λ rest ended.
+      subst (λ bytes. Before first k bytes old (Some (Some byte)) (Some rest) before now buffer) (sym (append_assoc u.bytes (byte ∷ []) rest))
+      (Some (byte ∷ rest), left_stepped None first.given k (Some (Some byte)) (Some (byte ∷ rest)) (Some rest) (sym g ∙ u.given) (λ h n. none_asked (Some (Some byte)) old k first.given u.given (u.by_hand h) t.wanted h g) (refl, refl), u.on (byte ∷ rest) (λ e. let r : old.ended ≡ None = (t.wanted (Some byte) refl).running in cc)),
+)
 
 before_it : (taken : Option (Option ℕ)) (first old new : MachineState) (told : Option (List ℕ)) (k : ℕ) (left after before now : Option (List ℕ)) (buffer : List ℕ) → Underway first told k old left before now buffer → IsTaken old new taken left after → KeepsEnd old new → (bytes : List ℕ) × ((rest : List ℕ) → (new.ended ≡ Some InputEnded → rest ≡ []) → Before first k (bytes ++ rest) old taken (Some rest) before now buffer)
 before_it taken first old new told k left after before now buffer u t over = before_by old.given taken first old new told k left after before now buffer refl u t over
@@ -146,22 +153,22 @@ goes_on taken end first old new told k left after before now later buffer waitin
     }
 
 -- after one more instruction
-pub drives_on : (taken : Option (Option ℕ)) (end : Option End) (first old new : MachineState) (told : Option (List ℕ)) (k : ℕ) (left after before now later : Option (List ℕ)) (buffer waiting : List ℕ) → Underway first told k old left before now buffer → IsTaken old new taken left after → KeepsEnd old new → new.given ≡ None → Runs (Ok end) old new taken before now later buffer waiting → Underway first told (k + 1) new after before later waiting
-drives_on taken end first old new told k left after before now later buffer waiting u t over g runs =
-    subst (λ k. Underway first told k new after before later waiting) (sym (add-one k)) (goes_on taken end first old new told k left after before now later buffer waiting u t over g runs)
+pub drives_on : {end : Option End} {first old new : MachineState} {told : Option (List ℕ)} {k : ℕ} {left after before now later : Option (List ℕ)} {buffer waiting : List ℕ} → Underway first told k old left before now buffer → Turns (Ok end) old new left after now later buffer waiting → KeepsEnd old new → new.given ≡ None → Underway first told (k + 1) new after before later waiting
+drives_on {end} {first} {old} {new} {told} {k} {left} {after} {before} {now} {later} {buffer} {waiting} u t over g =
+    subst (λ k. Underway first told k new after before later waiting) (sym (add-one k)) (goes_on t.taken end first old new told k left after before now later buffer waiting u t.takes over g (turn_runs t before))
 
 -- where bytes are told
-pub told_map : (told : Option (List ℕ)) (P Q : List ℕ → Type 0) → ((bytes : List ℕ) → P bytes → Q bytes) → IfSome told P → IfSome told Q
+told_map : (told : Option (List ℕ)) (P Q : List ℕ → Type 0) → ((bytes : List ℕ) → P bytes → Q bytes) → IfSome told P → IfSome told Q
 told_map None P Q f h = tt
 told_map (Some bytes) P Q f h = f bytes h
 
-pub told_when : (told : Option (List ℕ)) (When : Type 0) (P Q : List ℕ → Type 0) → ((bytes : List ℕ) → P bytes → Q bytes) → (When → IfSome told P) → IfSome told (λ bytes. When → Q bytes)
-told_when None When P Q f h = tt
-told_when (Some bytes) When P Q f h = λ w. f bytes (h w)
+pub told_when : (told : Option (List ℕ)) (When : Type 0) (P : List ℕ → Type 0) → (When → IfSome told P) → IfSome told (λ bytes. When → P bytes)
+told_when None When P h = tt
+told_when (Some bytes) When P h = h
 
 -- the moment after all that was printed has been written out
-pub flushed_here : (first : MachineState) (told : Option (List ℕ)) (k : ℕ) (machine : MachineState) (left before now later : Option (List ℕ)) (buffer : List ℕ) → Underway first told k machine left before now buffer → Appends now later buffer → IfSome told (λ bytes. IsDriven first k bytes machine left before later [])
-flushed_here first told k machine left before now later buffer u bytes =
+pub flushed_here : {first machine : MachineState} {told : Option (List ℕ)} {k : ℕ} {left before now : Option (List ℕ)} {buffer : List ℕ} (later : Option (List ℕ)) → Underway first told k machine left before now buffer → Appends now later buffer → IfSome told (λ bytes. IsDriven first k bytes machine left before later [])
+flushed_here {first} {machine} {told} {k} {left} {before} {now} {buffer} later u bytes =
     told_map told (λ bytes. IsDriven first k bytes machine left before now buffer) (λ bytes. IsDriven first k bytes machine left before later [])
     (λ input a. flushed (driven first k (input_for first.given input)) _ machine machine first.data_start _ before now later buffer a refl bytes) u.here
 
@@ -180,15 +187,15 @@ ended_on first k n machine end bytes left before now buffer le e a =
     subst (λ l. IsAt (driven first n input) (driven_fits first n input) machine first.data_start l before now buffer) (left_later first.given k n left le)
     (subst (λ x. IsAt x (driven_fits first n input) machine first.data_start (left_of first.given (suc k) left) before now buffer) (sym same) there)
 
--- a run that has ended is at the same moment later
-pub ended_here : (first : MachineState) (told : Option (List ℕ)) (k n : ℕ) (machine : MachineState) (end : End) (left before now : Option (List ℕ)) (buffer : List ℕ) → k + 1 ≤ n → machine.ended ≡ Some end → IfSome told (λ bytes. IsDriven first (k + 1) bytes machine left before now buffer) → IfSome told (λ bytes. IsDriven first n bytes machine left before now buffer)
-ended_here first told k n machine end left before now buffer le e h =
-    told_map told (λ bytes. IsDriven first (k + 1) bytes machine left before now buffer) (λ bytes. IsDriven first n bytes machine left before now buffer)
-    (λ bytes a. ended_on first k n machine end bytes left before now buffer (omega arith) e (subst (λ k. IsDriven first k bytes machine left before now buffer) (add-one k) a)) h
+-- the moment after a run has ended, which stays the same
+pub ended_here : {first machine : MachineState} {told : Option (List ℕ)} {left before now : Option (List ℕ)} {buffer : List ℕ} (later : Option (List ℕ)) (k : ℕ) (n : ℕ) (end : End) → k + 1 ≤ n → machine.ended ≡ Some end → Underway first told (k + 1) machine left before now buffer → Appends now later buffer → IfSome told (λ bytes. IsDriven first n bytes machine left before later [])
+ended_here {first} {machine} {told} {left} {before} {now} {buffer} later k n end le e u bytes =
+    told_map told (λ bytes. IsDriven first (k + 1) bytes machine left before later []) (λ bytes. IsDriven first n bytes machine left before later [])
+    (λ bytes a. ended_on first k n machine end bytes left before later [] (omega arith) e (subst (λ k. IsDriven first k bytes machine left before later []) (add-one k) a)) (flushed_here later u bytes)
 
 -- what is in out after a failed flush
-pub front_here : (first : MachineState) (told : Option (List ℕ)) (k n : ℕ) (machine : MachineState) (left before now later : Option (List ℕ)) (buffer : List ℕ) → k ≤ n → Underway first told k machine left before now buffer → AppendsFront now later buffer → IfSome told (λ bytes. HoldsFront before later (driven first n (input_for first.given bytes)).printed)
-front_here first told k n machine left before now later buffer le u bytes =
+pub front_here : {first machine : MachineState} {told : Option (List ℕ)} {k : ℕ} {left before now : Option (List ℕ)} {buffer : List ℕ} (later : Option (List ℕ)) (n : ℕ) → k ≤ n → Underway first told k machine left before now buffer → AppendsFront now later buffer → IfSome told (λ bytes. HoldsFront before later (driven first n (input_for first.given bytes)).printed)
+front_here {first} {machine} {told} {k} {left} {before} {now} {buffer} later n le u bytes =
     told_map told (λ bytes. IsDriven first k bytes machine left before now buffer) (λ bytes. HoldsFront before later (driven first n (input_for first.given bytes)).printed)
     (λ input a. front_later first k n (input_for first.given input) before later le (holds_front before now later buffer _ a.out bytes)) u.here
 
@@ -199,15 +206,15 @@ holds_all (Some old) None printed h = absurd h
 holds_all (Some old) (Some new) printed h = (h.0, h.1, ([], h.2))
 
 -- at most n instructions, with all written out
-pub made_all : (n : ℕ) (result : Result Finish DriveError) (first : MachineState) (told : Option (List ℕ)) (k : ℕ) (machine : MachineState) (left before now later : Option (List ℕ)) (buffer : List ℕ) → k ≤ n → (result ≡ Ok StepsUsed → k ≡ n) → Underway first told k machine left before now buffer → Appends now later buffer → MadeAtMost n result first machine before later
-made_all n result first told k machine left before now later buffer le all u bytes =
+pub made_all : {first machine : MachineState} {told : Option (List ℕ)} {k : ℕ} {left before now later : Option (List ℕ)} {buffer : List ℕ} (n : ℕ) (result : Result Finish DriveError) → k ≤ n → (result ≡ Ok StepsUsed → k ≡ n) → Underway first told k machine left before now buffer → Appends now later buffer → MadeAtMost n result first machine before later
+made_all {first} {machine} {told} {k} {left} {before} {now} {later} {buffer} n result le all u bytes =
     let a = u.on [] (λ e. refl) in
     let h : Holds before later [] (driven first k (input_for first.given (u.bytes ++ []))).printed = holds_flushed before now later buffer _ a.out bytes in
     record { made = k; within = le; all = all; bytes = u.bytes ++ []; stands = a.stands; written = λ w. h; front = holds_all before later _ h }
 
 -- and where the last flush failed
-pub made_front : (n : ℕ) (result : Result Finish DriveError) (first : MachineState) (told : Option (List ℕ)) (k : ℕ) (machine : MachineState) (left before now later : Option (List ℕ)) (buffer : List ℕ) → k ≤ n → result ≡ Err Write → Underway first told k machine left before now buffer → AppendsFront now later buffer → MadeAtMost n result first machine before later
-made_front n result first told k machine left before now later buffer le failed u bytes =
+pub made_front : {first machine : MachineState} {told : Option (List ℕ)} {k : ℕ} {left before now later : Option (List ℕ)} {buffer : List ℕ} (n : ℕ) (result : Result Finish DriveError) → k ≤ n → result ≡ Err Write → Underway first told k machine left before now buffer → AppendsFront now later buffer → MadeAtMost n result first machine before later
+made_front {first} {machine} {told} {k} {left} {before} {now} {later} {buffer} n result le failed u bytes =
     let a = u.on [] (λ e. refl) in
     record { made = k; within = le; all = λ e. cc; bytes = u.bytes ++ []; stands = a.stands; written = λ w. absurd (w failed); front = holds_front before now later buffer _ a.out bytes }
 
@@ -228,39 +235,39 @@ made_before Write n result first k bytes old new taken after before now later bu
     (runs (driven first k (input_for first.given bytes)) (driven_fits first k (input_for first.given bytes)) first.data_start _ _ b.1 b.2)
 
 -- at most n instructions where a turn failed
-pub made_broken : (error : DriveError) (r : Result (Option End) DriveError) (taken : Option (Option ℕ)) (n : ℕ) (result : Result Finish DriveError) (first old new : MachineState) (told : Option (List ℕ)) (k : ℕ) (left after before now later : Option (List ℕ)) (buffer waiting : List ℕ) → k + 1 ≤ n → r ≡ Err error → result ≡ Err error → Underway first told k old left before now buffer → IsTaken old new taken left after → KeepsEnd old new → Runs r old new taken before now later buffer waiting → MadeAtMost n result first new before later
-made_broken error r taken n result first old new told k left after before now later buffer waiting le failed same u t over runs =
-    let b = before_it taken first old new told k left after before now buffer u t over in
-    made_before error n result first k (b.0 ++ []) old new taken (Some []) before now later buffer waiting (omega arith) same (b.1 [] (λ e. refl)) (subst (λ r. Runs r old new taken before now later buffer waiting) failed runs)
+pub made_broken : {first old new : MachineState} {told : Option (List ℕ)} {k : ℕ} {left after before now later : Option (List ℕ)} {buffer waiting : List ℕ} (error : DriveError) (r : Result (Option End) DriveError) (n : ℕ) (result : Result Finish DriveError) → k + 1 ≤ n → r ≡ Err error → result ≡ Err error → Underway first told k old left before now buffer → Turns r old new left after now later buffer waiting → KeepsEnd old new → MadeAtMost n result first new before later
+made_broken {first} {old} {new} {told} {k} {left} {after} {before} {now} {later} {buffer} {waiting} error r n result le failed same u t over =
+    let b = before_it t.taken first old new told k left after before now buffer u t.takes over in
+    made_before error n result first k (b.0 ++ []) old new t.taken (Some []) before now later buffer waiting (omega arith) same (b.1 [] (λ e. refl)) (subst (λ r. Runs r old new t.taken before now later buffer waiting) failed (turn_runs t before))
 
 -- the moment of a failed read
-pub read_here : (r : Result (Option End) DriveError) (taken : Option (Option ℕ)) (first old new : MachineState) (told : Option (List ℕ)) (k : ℕ) (left after before now later : Option (List ℕ)) (buffer waiting : List ℕ) → r ≡ Err Read → new ≡ old → WantsAByte new → Underway first told k old left before now buffer → IsTaken old new taken left after → Runs r old new taken before now later buffer waiting → IfSome told (λ bytes. IsDriven first k bytes new after before later [])
-read_here r taken first old new told k left after before now later buffer waiting failed same wants u t runs =
+pub read_here : {first old new : MachineState} {told : Option (List ℕ)} {k : ℕ} {left after before now later : Option (List ℕ)} {buffer waiting : List ℕ} (r : Result (Option End) DriveError) (n : ℕ) → k < n → r ≡ Err Read → new ≡ old → WantsAByte new → Underway first told k old left before now buffer → Turns r old new left after now later buffer waiting → IfSome told (λ bytes. (j : ℕ) × (j < n) × IsDriven first j bytes new after before later [])
+read_here {first} {old} {new} {told} {k} {left} {after} {before} {now} {later} {buffer} {waiting} r n less failed same wants u t =
     let none : old.given ≡ None = sym (ap (λ m. m.given) same) ∙ wants.not_given in
-    let from : LeftAfter taken left after = subst (λ g. ComesFrom g taken left after) none t.from in
-    let l : LeftAfter taken (left_of first.given k left) (left_of first.given k after) = left_kept first.given k k taken left after (sym none ∙ u.given) (omega arith) (λ h. none_asked taken old k first.given u.given (u.by_hand h) t.wanted h none) from in
-    let runs' : Runs (Err Read) old new taken before now later buffer waiting = subst (λ r. Runs r old new taken before now later buffer waiting) failed runs in
-    told_map told (λ bytes. IsDriven first k bytes old left before now buffer) (λ bytes. IsDriven first k bytes new after before later [])
-    (λ bytes a. runs' (driven first k (input_for first.given bytes)) (driven_fits first k (input_for first.given bytes)) first.data_start _ _ l a) u.here
+    let from : LeftAfter t.taken left after = subst (λ g. ComesFrom g t.taken left after) none t.takes.from in
+    let l : LeftAfter t.taken (left_of first.given k left) (left_of first.given k after) = left_kept first.given k k t.taken left after (sym none ∙ u.given) (omega arith) (λ h. none_asked t.taken old k first.given u.given (u.by_hand h) t.takes.wanted h none) from in
+    let runs : Runs (Err Read) old new t.taken before now later buffer waiting = subst (λ r. Runs r old new t.taken before now later buffer waiting) failed (turn_runs t before) in
+    told_map told (λ bytes. IsDriven first k bytes old left before now buffer) (λ bytes. (j : ℕ) × (j < n) × IsDriven first j bytes new after before later [])
+    (λ bytes a. (k, less, runs (driven first k (input_for first.given bytes)) (driven_fits first k (input_for first.given bytes)) first.data_start _ _ l a)) u.here
 
 -- what is in out after a failed write
-pub write_here : (r : Result (Option End) DriveError) (taken : Option (Option ℕ)) (n : ℕ) (first old new : MachineState) (told : Option (List ℕ)) (k : ℕ) (left after before now later : Option (List ℕ)) (buffer waiting : List ℕ) → k + 1 ≤ n → r ≡ Err Write → Underway first told k old left before now buffer → IsTaken old new taken left after → Runs r old new taken before now later buffer waiting → IfSome told (λ bytes. HoldsFront before later (driven first n (input_for first.given bytes)).printed)
-write_here r taken n first old new told k left after before now later buffer waiting le failed u t runs =
-    let runs' : Runs (Err Write) old new taken before now later buffer waiting = subst (λ r. Runs r old new taken before now later buffer waiting) failed runs in
+pub write_here : {first old new : MachineState} {told : Option (List ℕ)} {k : ℕ} {left after before now later : Option (List ℕ)} {buffer waiting : List ℕ} (r : Result (Option End) DriveError) (n : ℕ) → k + 1 ≤ n → r ≡ Err Write → Underway first told k old left before now buffer → Turns r old new left after now later buffer waiting → IfSome told (λ bytes. HoldsFront before later (driven first n (input_for first.given bytes)).printed)
+write_here {first} {old} {new} {told} {k} {left} {after} {before} {now} {later} {buffer} {waiting} r n le failed u t =
+    let runs : Runs (Err Write) old new t.taken before now later buffer waiting = subst (λ r. Runs r old new t.taken before now later buffer waiting) failed (turn_runs t before) in
     told_map told (λ bytes. IsDriven first k bytes old left before now buffer) (λ bytes. HoldsFront before later (driven first n (input_for first.given bytes)).printed)
     (λ bytes a. ⊎_elim
     (λ s. front_later first k n (input_for first.given bytes) before later (omega arith) s.1)
     (λ s. front_later first (suc k) n (input_for first.given bytes) before later (omega arith) (front_next first k (input_for first.given bytes) before later s.1))
-    (runs' (driven first k (input_for first.given bytes)) (driven_fits first k (input_for first.given bytes)) first.data_start _ _ (told_left taken first old new told k left after before now buffer u t) a)) u.here
+    (runs (driven first k (input_for first.given bytes)) (driven_fits first k (input_for first.given bytes)) first.data_start _ _ (told_left t.taken first old new told k left after before now buffer u t.takes) a)) u.here
 
 -- a machine that was told by hand that there is no byte does not ask the console
-pub no_wish : (first : MachineState) (told : Option (List ℕ)) (k : ℕ) (machine : MachineState) (left before now : Option (List ℕ)) (buffer : List ℕ) → Underway first told k machine left before now buffer → first.given ≡ Some None → WantsAByte machine → ⊥
-no_wish first told k machine left before now buffer u h w =
+pub no_wish : {first machine : MachineState} {told : Option (List ℕ)} {k : ℕ} {left before now : Option (List ℕ)} {buffer : List ℕ} → Underway first told k machine left before now buffer → first.given ≡ Some None → WantsAByte machine → ⊥
+no_wish {first} {machine} {told} {k} {left} {before} {now} {buffer} u h w =
     ⊎_elim
     (λ e. let given : machine.given ≡ Some None = u.given ∙ ap (λ k. given_after k first.given) e ∙ h in let none : machine.given ≡ None = w.not_given in cc)
     (λ e. let running : machine.ended ≡ None = w.running in cc) (u.by_hand h)
 
 -- the moment after all instructions
-pub run_here : (first : MachineState) (told : Option (List ℕ)) (k n : ℕ) (machine : MachineState) (left before now later : Option (List ℕ)) (buffer : List ℕ) → k ≡ n → Underway first told k machine left before now buffer → Appends now later buffer → IfSome told (λ bytes. IsDriven first n bytes machine left before later [])
-run_here first told k n machine left before now later buffer e u bytes =
-    subst (λ k. IfSome told (λ bytes. IsDriven first k bytes machine left before later [])) e (flushed_here first told k machine left before now later buffer u bytes)
+pub run_here : {first machine : MachineState} {told : Option (List ℕ)} {k : ℕ} {left before now : Option (List ℕ)} {buffer : List ℕ} (later : Option (List ℕ)) (n : ℕ) → k ≡ n → Underway first told k machine left before now buffer → Appends now later buffer → IfSome told (λ bytes. IsDriven first n bytes machine left before later [])
+run_here {first} {machine} {told} {k} {left} {before} {now} {buffer} later n e u bytes =
+    subst (λ k. IfSome told (λ bytes. IsDriven first k bytes machine left before later [])) e (flushed_here later u bytes)

@@ -1,14 +1,13 @@
 -- Runs, one instruction after another.
-use Rattle.std.proofs.Common.{◌≡◌, ℕ, zero, suc, ◌+◌, ◌-◌, ◌≤◌, List, Option, Some, None, refl, sym, subst, arith, add-one}
-use Rattle.j1_simulator.specs.Step.{Stop}
+use Rattle.std.proofs.Common.{◌≡◌, ℕ, zero, suc, ◌+◌, ◌-◌, ◌≤◌, List, Option, refl, subst, arith}
 use Rattle.j1_simulator.specs.RoundMachine.{RingCells, round_storage}
 use Rattle.j1_simulator.specs.Run.{Configuration, run, advance}
 use Rattle.j1_simulator.specs.MachineState.{MachineState}
-use Rattle.j1_simulator.specs.Drive.{driven, driven_fits, going_on, counters_fit, HoldsFront}
-use Rattle.j1_simulator.proofs.Growing.{longer, run_over}
+use Rattle.j1_simulator.specs.Drive.{driven, driven_fits, going_on, HoldsFront}
+use Rattle.j1_simulator.proofs.Growing.{longer}
 use Rattle.j1_simulator.proofs.Holding.{front_over}
 use Rattle.j1_simulator.proofs.Counting.{both_hold}
-use Rattle.std.specs.Prelude.{Bool, ◌&&◌, IsTrue}
+use Rattle.std.specs.Prelude.{IsTrue}
 
 pub run_suc : (k data_start : ℕ) (configuration : Configuration ℕ RingCells) → run round_storage data_start (suc k) configuration ≡ advance data_start (run round_storage data_start k configuration)
 run_suc zero data_start configuration = refl

@@ -14,7 +14,7 @@ use Rattle.j1_simulator.specs.RoundMachine.{RingCells, round_storage}
 use Rattle.j1_simulator.specs.MachineState.{MachineState, Depths, counted, end_of, event_of, GoesOn, EndsBy, Answers, Steps, IsTaking, WantsAByte, GivenIsDue}
 use Rattle.j1_simulator.specs.Run.{Configuration, prints_of, printed_by, stop_of, counted_on, taken_on, with_outcome, advanced, advance}
 use Rattle.j1_simulator.specs.Turn.{LeftAfter}
-use Rattle.j1_simulator.specs.Drive.{Holds, StandsAt, IsAt, told, ended_by, in_64_bits, counters_fit, depths_of}
+use Rattle.j1_simulator.specs.Drive.{Holds, IsAt, told, ended_by, in_64_bits, counters_fit, depths_of}
 use Rattle.j1_simulator.proofs.Holding.{holds_more}
 use Rattle.j1_simulator.proofs.Counting.{both_hold, held_fits}
 

@@ -1,6 +1,6 @@
 -- What a turn of a drive leaves.
 use Rattle.std.proofs.Common.{◌≡◌, ℕ, List, [], drop, Option, Some, None, refl, sym, ap, ◌∙◌, subst, inl, inr, ⊎_elim}
-use Rattle.std.specs.Prelude.{Bool, ◌&&◌, IsTrue, IfSome, OnOk, OnErr, Result, Ok, Err}
+use Rattle.std.specs.Prelude.{Bool, ◌&&◌, IsTrue, OnOk, OnErr, Result, Ok, Err}
 use Rattle.std.specs.Io.KnownBytes.{Appends}
 use Rattle.outside_io.specs.Bytes.{AppendsFront}
 use Rattle.j1_simulator.specs.declared.effects.Output.TheVariants.{Silent}

@@ -38,3 +38,11 @@ TurnEnds (Err Read) configuration fits new data_start left before now buffer =
 TurnEnds (Err Write) configuration fits new data_start left before now buffer =
     StandsWritten configuration fits new data_start before now
     ⊎ StandsWritten (advance data_start configuration) (fits && counters_fit (advance data_start configuration)) new data_start before now
+
+-- a turn takes at most one byte, and makes its instruction from whatever moment the machine stands at
+pub record Turns (result : Result (Option End) DriveError) (old new : MachineState) (left after now later : Option (List ℕ)) (buffer waiting : List ℕ) : Type 0 where
+  pub taken : Option (Option ℕ)
+  pub takes : IsTaken old new taken left after
+  pub ends :
+      (configuration : Configuration ℕ RingCells) (fits : Bool) (data_start : ℕ) (before input rest : Option (List ℕ)) → LeftAfter taken input rest →
+      IsAt configuration fits old data_start input before now buffer → TurnEnds result configuration fits new data_start rest before later waiting

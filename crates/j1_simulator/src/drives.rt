@@ -5,7 +5,7 @@ ghost use Rattle.j1_simulator.specs.Run.{Configuration};
 ghost use Rattle.j1_simulator.specs.RoundMachine.{RingCells};
 ghost use Rattle.j1_simulator.specs.MachineState.{WantsAByte};
 ghost use Rattle.j1_simulator.specs.Drive.{Holds, HoldsFront, IsAt, told, ended_by, driven, input_for, given_after, IsDriven, MadeAtMost, end_told, KeepsEnd};
-ghost use Rattle.j1_simulator.specs.Turn.{LeftAfter, IsTaken, TurnEnds};
+ghost use Rattle.j1_simulator.specs.Turn.{Turns};
 
 use crate::buffers::Buffer;
 use crate::ends::{DriveError, End, Event, Finish};
@@ -77,10 +77,7 @@ fn turn<C: Source, O: Sink>(
     ensures given { machine.new.given ≡ None }
     ensures quiet { (WantsAByte machine.old → ⊥) → console.new ≡ console.old }
 
-    ensures run { (taken : Option (Option ℕ)) × IsTaken machine.old machine.new taken (C.left console.old) (C.left console.new) ×
-        ((configuration : Configuration ℕ RingCells) (fits : Bool) (data_start : ℕ) (before left after : Option (List ℕ)) → LeftAfter taken left after →
-            IsAt configuration fits machine.old data_start left before (O.held out.old) buffer.old →
-            TurnEnds result configuration fits machine.new data_start after before (O.held out.new) buffer.new) }
+    ensures run { Turns result machine.old machine.new (C.left console.old) (C.left console.new) (O.held out.old) (O.held out.new) buffer.old buffer.new }
 {
     match machine.step() {
         Event::WantsByte => {

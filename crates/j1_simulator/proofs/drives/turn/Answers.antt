@@ -1,6 +1,5 @@
-use Rattle.std.proofs.Common.{arith, rules, ◌≡◌, ◌++◌, Some, None, sym, subst, ap, ◌∙◌, refl}
-use Rattle.std.specs.Prelude.{IfOk, Err, Ok}
-use Rattle.j1_simulator.specs.declared.ends.Event.TheVariants.{WantsByte}
+use Rattle.std.proofs.Common.{arith, rules, ◌≡◌, ◌++◌, Some, None, sym, subst, refl}
+use Rattle.std.specs.Prelude.{IfOk, Err}
 use Rattle.j1_simulator.specs.declared.ends.DriveError.TheVariants.{Read, Write}
 use Rattle.j1_simulator.specs.Run.{advance}
 use Rattle.j1_simulator.specs.Drive.{Holds, told}
@@ -11,17 +10,23 @@ use Rattle.j1_simulator.proofs.drives.turn.Goals as goal
 
 pub returns-in_err-flush-in-WantsByte-clause-run : goal.returns-in_err-flush-in-WantsByte-clause-run
 returns-in_err-flush-in-WantsByte-clause-run g c =
-    let w = wants _ c.args.machine.now c.step.new.self c.step.ensures.step c.in-WantsByte.is in
-    (None, none_taken c.args.machine.now c.step.new.self _ _ w.0.not_given (stays _), λ configuration fits data_start before left after l a.
-    let e : c.from_residual.result ≡ Err Write = search rules in
-    not_flushed c.from_residual.result configuration fits c.args.machine.now c.step.new.self data_start left after before _ _ _ _ e a w.1 c.in_err-flush-in-WantsByte.ensures.bytes)
+    let w = wants _ c.args.machine.now c.step.new.self c.step.ensures.step c.in-WantsByte.is in record {
+      taken = None;
+      takes = none_taken c.args.machine.now c.step.new.self _ _ w.0.not_given (stays _);
+      ends = λ configuration fits data_start before left after l a.
+          let e : c.from_residual.result ≡ Err Write = search rules in
+          not_flushed c.from_residual.result configuration fits c.args.machine.now c.step.new.self data_start left after before _ _ _ _ e a w.1 c.in_err-flush-in-WantsByte.ensures.bytes;
+    }
 
 pub returns-in_err-byte-in-WantsByte-clause-run : goal.returns-in_err-byte-in-WantsByte-clause-run
 returns-in_err-byte-in-WantsByte-clause-run g c =
-    let w = wants _ c.args.machine.now c.step.new.self c.step.ensures.step c.in-WantsByte.is in
-    (None, none_taken c.args.machine.now c.step.new.self _ _ w.0.not_given c.in_err-byte-in-WantsByte.ensures.byte, λ configuration fits data_start before left after l a.
-    let e : c.from_residual-in_err-byte-in-WantsByte.result ≡ Err Read = search rules in
-    not_asked c.from_residual-in_err-byte-in-WantsByte.result configuration fits c.args.machine.now c.step.new.self data_start left after before _ _ _ _ e l a w.1 c.in_ok-flush-in-WantsByte.ensures.bytes)
+    let w = wants _ c.args.machine.now c.step.new.self c.step.ensures.step c.in-WantsByte.is in record {
+      taken = None;
+      takes = none_taken c.args.machine.now c.step.new.self _ _ w.0.not_given c.in_err-byte-in-WantsByte.ensures.byte;
+      ends = λ configuration fits data_start before left after l a.
+          let e : c.from_residual-in_err-byte-in-WantsByte.result ≡ Err Read = search rules in
+          not_asked c.from_residual-in_err-byte-in-WantsByte.result configuration fits c.args.machine.now c.step.new.self data_start left after before _ _ _ _ e l a w.1 c.in_ok-flush-in-WantsByte.ensures.bytes;
+    }
 
 pub returns-in_err-byte-in-WantsByte-clause-wants : goal.returns-in_err-byte-in-WantsByte-clause-wants
 returns-in_err-byte-in-WantsByte-clause-wants g c = λ e.
@@ -35,12 +40,15 @@ give_byte-requires g c =
 
 pub returns-in_ok-byte-in-WantsByte-clause-run : goal.returns-in_ok-byte-in-WantsByte-clause-run
 returns-in_ok-byte-in-WantsByte-clause-run g c =
-    let w = wants _ c.args.machine.now c.step.new.self c.step.ensures.step c.in-WantsByte.is in
-    (Some c.in_ok-byte-in-WantsByte.byte, asked_taken c.args.machine.now c.step.new.self c.give_byte.new.self c.step-in-WantsByte.new.self _ _ _ _ w.0 w.1 c.give_byte.ensures c.step-in-WantsByte.ensures.step c.in_ok-byte-in-WantsByte.ensures.byte, λ configuration fits data_start before left after l a.
-    let f = flushed configuration fits c.args.machine.now c.step.new.self data_start left before _ _ _ a w.1 c.in_ok-flush-in-WantsByte.ensures.bytes in
-    let t = key_turned configuration fits c.step.new.self c.give_byte.new.self c.step-in-WantsByte.new.self data_start _ left after before _ _ _ f (subst WantsAByte (sym w.1) w.0) c.give_byte.ensures l c.step-in-WantsByte.ensures.step in
-    let h : Holds before (g.O.Sink.held c.flush.new.out) (c.flush.new.self ++ told c.step-in-WantsByte.result) (advance data_start configuration).printed = subst (λ b. Holds before (g.O.Sink.held c.flush.new.out) (b ++ told c.step-in-WantsByte.result) (advance data_start configuration).printed) (sym c.in_ok-flush-in-WantsByte.ensures.empty) t.at.out in
-    noted c.note.result configuration fits c.step-in-WantsByte.new.self data_start after before _ _ _ _ _ t c.note.ensures.err (c.note.ensures.ok before (advance data_start configuration).printed h) (c.note.ensures.front before (advance data_start configuration).printed h))
+    let w = wants _ c.args.machine.now c.step.new.self c.step.ensures.step c.in-WantsByte.is in record {
+      taken = Some c.in_ok-byte-in-WantsByte.byte;
+      takes = asked_taken c.args.machine.now c.step.new.self c.give_byte.new.self c.step-in-WantsByte.new.self _ _ _ _ w.0 w.1 c.give_byte.ensures c.step-in-WantsByte.ensures.step c.in_ok-byte-in-WantsByte.ensures.byte;
+      ends = λ configuration fits data_start before left after l a.
+          let f = flushed configuration fits c.args.machine.now c.step.new.self data_start left before _ _ _ a w.1 c.in_ok-flush-in-WantsByte.ensures.bytes in
+          let t = key_turned configuration fits c.step.new.self c.give_byte.new.self c.step-in-WantsByte.new.self data_start _ left after before _ _ _ f (subst WantsAByte (sym w.1) w.0) c.give_byte.ensures l c.step-in-WantsByte.ensures.step in
+          let h : Holds before (g.O.Sink.held c.flush.new.out) (c.flush.new.self ++ told c.step-in-WantsByte.result) (advance data_start configuration).printed = subst (λ b. Holds before (g.O.Sink.held c.flush.new.out) (b ++ told c.step-in-WantsByte.result) (advance data_start configuration).printed) (sym c.in_ok-flush-in-WantsByte.ensures.empty) t.at.out in
+          noted c.note.result configuration fits c.step-in-WantsByte.new.self data_start after before _ _ _ _ _ t c.note.ensures.err (c.note.ensures.ok before (advance data_start configuration).printed h) (c.note.ensures.front before (advance data_start configuration).printed h);
+    }
 
 pub returns-in_ok-byte-in-WantsByte-clause-given : goal.returns-in_ok-byte-in-WantsByte-clause-given
 returns-in_ok-byte-in-WantsByte-clause-given g c =
@@ -68,9 +76,13 @@ returns-in_default g c =
       kept = λ e. absurd (read_clash e);
       given = used _ c.args.machine.now c.step.new.self c.step.ensures.due c.step.ensures.step c.in_default.not-WantsByte;
       quiet = λ apart. refl;
-      run = (c.args.machine.now.given, given_taken c.args.machine.now c.step.new.self _ _ c.step.ensures.due c.step.ensures.step, λ configuration fits data_start before left after l a.
-      let t = stepped configuration fits c.args.machine.now c.step.new.self data_start _ left after before _ _ a c.step.ensures.due c.step.ensures.step c.in_default.not-WantsByte l in
-      noted c.note-in_default.result configuration fits c.step.new.self data_start after before _ _ _ _ _ t c.note-in_default.ensures.err (c.note-in_default.ensures.ok before (advance data_start configuration).printed t.at.out) (c.note-in_default.ensures.front before (advance data_start configuration).printed t.at.out));
+      run = record {
+        taken = c.args.machine.now.given;
+        takes = given_taken c.args.machine.now c.step.new.self _ _ c.step.ensures.due c.step.ensures.step;
+        ends = λ configuration fits data_start before left after l a.
+            let t = stepped configuration fits c.args.machine.now c.step.new.self data_start _ left after before _ _ a c.step.ensures.due c.step.ensures.step c.in_default.not-WantsByte l in
+            noted c.note-in_default.result configuration fits c.step.new.self data_start after before _ _ _ _ _ t c.note-in_default.ensures.err (c.note-in_default.ensures.ok before (advance data_start configuration).printed t.at.out) (c.note-in_default.ensures.front before (advance data_start configuration).printed t.at.out);
+      };
     }
 
 pub note-requires-clause-answered : goal.note-requires-clause-answered
