@@ -1,5 +1,5 @@
 -- The headline, at the programs of texts.
-use Rattle.std.proofs.Common.{◌≡◌, ℕ, List, [], length, nat_le, true, false, refl, sym, ap, ◌∙◌, subst}
+use Rattle.std.proofs.Common.{◌≡◌, ℕ, List, [], length, nat_le, true, false, refl, ap, ◌∙◌, subst}
 use Rattle.std.specs.Prelude.{Option, Some, None, IfSome, if◌then◌else◌}
 use Rattle.std.specs.Io.KnownBytes.{Appends}
 use Rattle.std.proofs.lemmas.List.{append-nil}

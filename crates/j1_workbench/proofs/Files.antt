@@ -1,5 +1,5 @@
 -- Source texts that are read from a folder.
-use Rattle.std.proofs.Common.{◌≡◌, ℕ, ◌<◌, List, length, take, true, false, refl, sym, ap, ◌∙◌, subst, arith, length-take}
+use Rattle.std.proofs.Common.{◌≡◌, ℕ, ◌<◌, List, length, take, true, false, refl, sym, ap, ◌∙◌, arith, length-take}
 use Rattle.std.proofs.lemmas.Bool.{lt-leb}
 use Rattle.std.proofs.lemmas.Bool.Decides.{nat_tests}
 use Rattle.std.proofs.lemmas.List.{take_all}

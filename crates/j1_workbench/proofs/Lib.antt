@@ -2,7 +2,6 @@ pub mod Appending
 pub mod Compiled
 pub mod Digits
 pub mod Driving
-pub mod Fetching
 pub mod Files
 pub mod Straight
 pub mod Walking

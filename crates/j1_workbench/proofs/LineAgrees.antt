@@ -1,17 +1,16 @@
 -- A straight line agrees with its image.
-use Rattle.std.proofs.Common.{◌≡◌, ◌≢◌, ℕ, zero, suc, ◌+◌, ◌-◌, ◌*◌, ◌/◌, ◌<◌, ◌≤◌, true, false, List, [], ◌∷◌, ◌++◌, length, drop, Option, Some, None, refl, sym, ap, ◌∙◌, subst, arith}
-use Rattle.std.specs.Prelude.{if◌then◌else◌}
+use Rattle.std.proofs.Common.{◌≡◌, ◌≢◌, ℕ, zero, suc, ◌+◌, ◌*◌, ◌/◌, ◌<◌, ◌≤◌, true, List, [], ◌++◌, length, drop, Some, refl, sym, ap, ◌∙◌, subst, arith}
 use Rattle.std.proofs.Math.Nat.{mul-le-mul}
 use Rattle.std.proofs.Math.Seq.{drop-append_seam}
 use Rattle.j1_table.specs.Image.{Content}
 use Rattle.j1_table.specs.Instruction.{decoded}
-use Rattle.j1_simulator.specs.Step.{Stop, By, Missing}
+use Rattle.j1_simulator.specs.Step.{Stop, Missing}
 use Rattle.j1_simulator.specs.OpenMachine.{open_storage}
 use Rattle.j1_simulator.specs.Run.{run, begun, open_start, open_run, round_run, advanced, IsPrefixOf}
 use Rattle.forth_program.specs.State.{World, End, Halted, InputEnded, Outside, Underflow, Unbalanced, Outcome, Goes, Ends}
-use Rattle.forth_program.specs.Program.{SourceProgram, body_of, uses_depth}
+use Rattle.forth_program.specs.Program.{SourceProgram, body_of}
 use Rattle.forth_program.specs.Run.{first_state, first_world, source_run, steps, world_of, end_of}
-use Rattle.forth_program.specs.Price.{price, spent}
+use Rattle.forth_program.specs.Price.{price}
 use Rattle.control_flow.specs.SourceLaw.{IsLine, line_length}
 use Rattle.word_laws.specs.Rings.{OpenConfiguration, BeforeEach, Agrees as StandAlike}
 use Rattle.word_laws.specs.Bounds.{StaysWithin}
@@ -19,8 +18,9 @@ use Rattle.word_laws.specs.Cells.{IsWorld}
 use Rattle.word_laws.specs.Standing.{standing_as, machine_end}
 use Rattle.j1_workbench.specs.Certificate.{most_cells, is_certified}
 use Rattle.j1_workbench.specs.Layout.{code_of, laid_out}
-use Rattle.j1_workbench.specs.Headline.{word_steps, DepthStaysWithin, Agrees}
-use Rattle.j1_workbench.proofs.LineSteps.{Laws, HasEnded, EndsAs, Reaches, Follows, home, follows}
+use Rattle.j1_workbench.specs.Headline.{word_steps, Agrees}
+use Rattle.j1_workbench.proofs.Walking.{small_most}
+use Rattle.j1_workbench.proofs.LineSteps.{Laws, HasEnded, EndsAs, Reaches, home, follows}
 use Rattle.j1_workbench.proofs.LineImage.{code, begins, code_size, image_stands}
 
 -- fewer instructions are within the bounds too
@@ -164,9 +164,6 @@ module _ (laws : Laws) (p : SourceProgram) (input : List ℕ) (starts : p.data_s
   abbrev memory : List ℕ
   memory = code p starts
 
-  few_cells : most_cells p ≤ 33
-  few_cells = elim (uses_depth p) as (λ b. (if b then 32 else 33) ≤ 33) [ true ↦ omega arith | false ↦ omega arith ]
-
   line_reached : (k : ℕ) → Reached p (laid_out p) input memory (line_length (body_of p p.main_body)) k
   unfolding source_run price
   line_reached k =
@@ -177,7 +174,7 @@ module _ (laws : Laws) (p : SourceProgram) (input : List ℕ) (starts : p.data_s
       let stands = image_stands p starts room laws.cells_stand in
       let call = laws.calls ds 8 0 memory [] [] [] [] s.world (ap decoded stands.0, stands.1) in
       let f = follows laws p ds memory (code_size p starts room) starts (stands.2.0, stands.2.1, (stands.2.2.0, stands.2.2.1, (stands.2.2.2.0, stands.2.2.2.1, refl)))
-            (body_of p p.main_body) (most_cells p) k 8 8 _ [] s.world [] [] few_cells line certified stands.2.2.2.2.2.2.2.2 tt world refl in
+      (body_of p p.main_body) (most_cells p) k 8 8 _ [] s.world [] [] (small_most p (most_cells p) refl) line certified stands.2.2.2.2.2.2.2.2 tt world refl in
       let joined : run open_storage ds (1 + f.count) v ≡ run open_storage ds f.count v' = laws.runs_join 1 f.count ds v ∙ ap (run open_storage ds f.count) call.makes in
       let first : BeforeEach (StaysWithin 0 33 0 32) ds 1 v = laws.bounds_widen 0 0 0 0 0 33 0 32 1 ds v (omega arith) (omega arith) (omega arith) (omega arith) call.bounds in
       let paid = f.cheap in

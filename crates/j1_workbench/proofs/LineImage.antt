@@ -1,6 +1,6 @@
 -- The image of a straight line: its code, and where the machine and the source begin.
-use Rattle.std.proofs.Common.{◌≡◌, ℕ, zero, suc, ◌+◌, ◌-◌, ◌*◌, ◌/◌, ◌<◌, ◌≤◌, nat_lt, Bool, true, false, ◌&&◌, List, [], ◌∷◌, ◌++◌, length, replicate, slice_index, Option, Some, None, refl, sym, ap, ◌∙◌, subst, length-append, arith}
-use Rattle.std.specs.List.{All, list_all}
+use Rattle.std.proofs.Common.{◌≡◌, ℕ, zero, suc, ◌+◌, ◌-◌, ◌/◌, ◌<◌, ◌≤◌, nat_lt, true, ◌&&◌, List, [], ◌∷◌, ◌++◌, length, replicate, slice_index, None, refl, sym, ap, ◌∙◌, subst, length-append, arith}
+use Rattle.std.specs.List.{list_all}
 use Rattle.std.proofs.lemmas.Bool.Decides.{nat_tests}
 use Rattle.std.proofs.lemmas.List.{length-replicate}
 use Rattle.std.proofs.lemmas.List.Elements.{All-head, All-tail}
@@ -14,27 +14,24 @@ use Rattle.word_laws.specs.Cells.{IsWorld}
 use Rattle.word_laws.specs.Standing.{standing_as, StandIn, CellsStand}
 use Rattle.j1_workbench.specs.Layout.{code_of, laid_out}
 use Rattle.j1_workbench.specs.Headline.{AreBytes}
+use Rattle.j1_workbench.proofs.Walking.{both}
 
 -- ---- cells of bytes
-
-both_tests : (a b : Bool) → a && b ≡ true → (a ≡ true) × (b ≡ true)
-both_tests true b e = (refl, e)
-both_tests false b e = cc
 
 small_cells : (bytes : List ℕ) → list_all (λ byte. nat_lt byte 256) bytes ≡ true → (i : ℕ) → slice_index (cells_of_bytes bytes) i < 65536
 small_cells [] small zero = omega arith
 small_cells [] small (suc i) = omega arith
-small_cells (low ∷ []) small zero = let t = both_tests (nat_lt low 256) true small in let h = t.0 in grind (arith, nat_tests)
+small_cells (low ∷ []) small zero = let t = both (nat_lt low 256) true small in let h = t.0 in grind (arith, nat_tests)
 small_cells (low ∷ []) small (suc i) = omega arith
 small_cells (low ∷ high ∷ bytes) small zero =
-    let t = both_tests (nat_lt low 256) (nat_lt high 256 && list_all (λ byte. nat_lt byte 256) bytes) small in
-    let u = both_tests (nat_lt high 256) (list_all (λ byte. nat_lt byte 256) bytes) t.1 in
+    let t = both (nat_lt low 256) (nat_lt high 256 && list_all (λ byte. nat_lt byte 256) bytes) small in
+    let u = both (nat_lt high 256) (list_all (λ byte. nat_lt byte 256) bytes) t.1 in
     let h : low < 256 = let h = t.0 in grind (arith, nat_tests) in
     let k : high < 256 = let k = u.0 in grind (arith, nat_tests) in
     omega arith
 small_cells (low ∷ high ∷ bytes) small (suc i) =
-    let t = both_tests (nat_lt low 256) (nat_lt high 256 && list_all (λ byte. nat_lt byte 256) bytes) small in
-    let u = both_tests (nat_lt high 256) (list_all (λ byte. nat_lt byte 256) bytes) t.1 in
+    let t = both (nat_lt low 256) (nat_lt high 256 && list_all (λ byte. nat_lt byte 256) bytes) small in
+    let u = both (nat_lt high 256) (list_all (λ byte. nat_lt byte 256) bytes) t.1 in
     small_cells bytes u.1 i
 
 zeros_small : (n i : ℕ) → slice_index (replicate n 0) i < 65536

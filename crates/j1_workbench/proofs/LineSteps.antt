@@ -1,5 +1,5 @@
 -- The open machine follows the source through a straight line, item by item.
-use Rattle.std.proofs.Common.{◌≡◌, ℕ, zero, suc, ◌+◌, ◌-◌, ◌*◌, ◌/◌, ◌<◌, ◌≤◌, nat_le, nat_lt, Bool, true, false, ◌&&◌, IsTrue, List, [], ◌∷◌, ◌++◌, length, Option, Some, None, refl, sym, ap, ◌∙◌, subst, append_assoc, arith}
+use Rattle.std.proofs.Common.{◌≡◌, ℕ, zero, suc, ◌+◌, ◌-◌, ◌/◌, ◌<◌, ◌≤◌, nat_le, nat_lt, Bool, true, false, ◌&&◌, IsTrue, List, [], ◌∷◌, ◌++◌, length, Option, Some, None, refl, sym, ap, ◌∙◌, subst, append_assoc, arith}
 use Rattle.std.specs.Prelude.{ℤ, pos, negsuc, if◌then◌else◌}
 use Rattle.std.proofs.lemmas.Bool.Decides.{nat_tests}
 use Rattle.word_table.specs.declared.word.Word.{Word}
@@ -7,12 +7,12 @@ use Rattle.word_table.specs.declared.word.Word.TheVariants.{Dup, ToR, RFrom, RFe
 use Rattle.word_table.specs.declared.word.Class.TheVariants as class
 use Rattle.word_table.specs.Table.{entry_of, cells_of}
 use Rattle.forth_program.specs.State.{World, State, Reply, Gives, Stops, End, Halted, Outcome, Goes, Ends}
-use Rattle.forth_program.specs.Tree.{Node, Nodes, Literal, Plain, Empty, Then}
+use Rattle.forth_program.specs.Tree.{Nodes, Literal, Plain, Empty, Then}
 use Rattle.forth_program.specs.Program.{SourceProgram}
 use Rattle.forth_program.specs.Meaning.{meaning}
 use Rattle.forth_program.specs.Step.{before, on_cells, word_step, step}
 use Rattle.forth_program.specs.Run.{steps}
-use Rattle.forth_program.specs.Price.{word_price, step_price, spent, spent_after}
+use Rattle.forth_program.specs.Price.{word_price, step_price, spent}
 use Rattle.j1_table.specs.Instruction.{decoded}
 use Rattle.j1_simulator.specs.Effect.{following}
 use Rattle.j1_simulator.specs.Step.{Stop}
@@ -26,9 +26,10 @@ use Rattle.word_laws.specs.Cells.{AreCells, IsWorld}
 use Rattle.word_laws.specs.Control.{CallLeads, ReturnLeads, HaltEnds, halt_cells}
 use Rattle.word_laws.specs.Numbers.{number_cells, NumberStands, NumbersDoTheirMeaning, NumbersKeepTheirBounds}
 use Rattle.word_laws.specs.Standing.{standing_as, machine_end, EndedIn, HasCome, StandIn, CellsStand}
-use Rattle.word_laws.specs.Words.{is_inline, stands_plain, finds_entries, return_need, CellsApply, IsReady, WordsDoTheirMeaning, WordsKeepTheirBounds, WordsEndWithinBounds, WordsLeaveCells, IsKept, ChangesBy, LeavesBy, WordsChangeDepths}
+use Rattle.word_laws.specs.Words.{is_inline, stands_plain, finds_entries, return_need, CellsApply, IsReady, WordsDoTheirMeaning, WordsKeepTheirBounds, WordsEndWithinBounds, WordsLeaveCells, ChangesBy, LeavesBy, WordsChangeDepths}
 use Rattle.j1_workbench.specs.Certificate.{changed, keeps_limits, goes_on, walks}
-use Rattle.j1_workbench.specs.Layout.{item_cells, code_of}
+use Rattle.j1_workbench.specs.Layout.{code_of}
+use Rattle.j1_workbench.proofs.Walking.{both}
 
 -- the laws on which this stands
 pub record Laws : Type 0 where
@@ -143,7 +144,7 @@ module _ (laws : Laws) (p : SourceProgram) (data_start : ℕ) (code : List ℕ) 
   then_follows next base n left k total s v (Goes after) e leads later =
       let f = later after refl leads.comes.0 leads.comes.1 in
       let joined : run open_storage data_start (n + f.count) v ≡ run open_storage data_start f.count (standing_as after code next base leads.comes.0 leads.comes.1) =
-        laws.runs_join n f.count data_start v ∙ ap (run open_storage data_start f.count) leads.comes.2 in
+      laws.runs_join n f.count data_start v ∙ ap (run open_storage data_start f.count) leads.comes.2 in
       let price : spent p total (suc k) s ≡ spent p (total + step_price s) k after = spent_on p s k total after e in
       let paid = f.cheap in
       let paid' = leads.cheap in
@@ -157,10 +158,6 @@ module _ (laws : Laws) (p : SourceProgram) (data_start : ℕ) (code : List ℕ) 
   then_follows next base n left k total s v (Ends end world) e leads later = end_follows next base n (suc left) k total s v end world e leads
 
 -- ---- numbers and words
-
-both : (a b : Bool) → a && b ≡ true → (a ≡ true) × (b ≡ true)
-both true b e = (refl, e)
-both false b e = cc
 
 pub number_short : (value : ℕ) → length (number_cells value) ≤ 2
 number_short value = elim (nat_lt value 0x8000) as (λ b. length (if b then (0x8000 + value) ∷ [] else (0x8000 + (0xffff - value)) ∷ 0x6600 ∷ []) ≤ 2) [ true ↦ omega arith | false ↦ omega arith ]
@@ -251,7 +248,7 @@ module _ (laws : Laws) (p : SourceProgram) (code : List ℕ) where
       record {
         comes = laws.words p word code pc next s home data_above return_above ready;
         bounds = laws.bounds_widen (length c - (entry_of word).need) (length c + (entry_of word).peak) (1 - return_need word) (1 + (entry_of word).back) 0 33 0 32 (length (cells_of word)) w.data_start v (omega arith) peak (omega arith) (omega arith)
-          (laws.word_bounds word code pc next s home data_above return_above ready);
+            (laws.word_bounds word code pc next s home data_above return_above ready);
         at_end = λ over. ends (word_step p word c [] s) refl over;
         cheap = enough (word_step p word c [] s) price;
       }
@@ -350,9 +347,9 @@ module _ (laws : Laws) (p : SourceProgram) (data_start : ℕ) (code : List ℕ) 
       (subst (λ d. Leads d code split.0 home (length (cells_of word)) price v (word_step p word c [] done)) same
       (word_leads laws p code word rest pc split.0 c w data_above return_above line.0 need peak back (size ∙ ap (λ d. d / 2) (sym same)) (same ∙ starts) split.1 cells))
       (λ state e above above'.
-        let kept = laws.word_cells p word done state plain cells tt world e in
-        let left = walked_on entry.exit (walks most rest) (length c) (length state.cells) (laws.word_depths p word done state plain e) tests.1 in
-        subst (λ state. Follows p data_start code (line_length rest) k (total + price) state (standing_as state code split.0 home above above'))
-        (state_is (meaning word c w) rest c w state (sym (inline_step p word c done line.0) ∙ e))
-        (follows rest most k (total + price) split.0 next state.cells state.world above above' limit line.1 left split.2 kept.cells kept.world (kept.data_start ∙ same)))
+      let kept = laws.word_cells p word done state plain cells tt world e in
+      let left = walked_on entry.exit (walks most rest) (length c) (length state.cells) (laws.word_depths p word done state plain e) tests.1 in
+      subst (λ state. Follows p data_start code (line_length rest) k (total + price) state (standing_as state code split.0 home above above'))
+      (state_is (meaning word c w) rest c w state (sym (inline_step p word c done line.0) ∙ e))
+      (follows rest most k (total + price) split.0 next state.cells state.world above above' limit line.1 left split.2 kept.cells kept.world (kept.data_start ∙ same)))
   follows (Then node rest) most (suc k) total pc next c w data_above return_above limit line walked stands cells world same = absurd line

@@ -1,5 +1,5 @@
 -- What a program of one straight line has, by what its text has.
-use Rattle.std.proofs.Common.{◌≡◌, ℕ, ◌+◌, ◌≤◌, ◌<◌, nat_le, nat_lt, true, false, IsTrue, List, length, refl, sym, ap, subst, length-append, arith}
+use Rattle.std.proofs.Common.{◌≡◌, ◌+◌, ◌≤◌, nat_le, false, IsTrue, length, refl, sym, ap, subst, length-append, arith}
 use Rattle.std.proofs.lemmas.Bool.Decides.{nat_tests}
 use Rattle.std.specs.Prelude.{if◌then◌else◌}
 use Rattle.word_table.specs.declared.word.Word.{Word}
@@ -7,13 +7,9 @@ use Rattle.word_table.specs.declared.word.Word.TheVariants.{Dup}
 use Rattle.word_table.specs.Table.{entry_of, cells_of}
 use Rattle.forth_program.specs.Tree.{Nodes, Literal, Plain, Empty, Then}
 use Rattle.forth_program.specs.Program.{SourceProgram, body_of}
-use Rattle.control_flow.specs.SourceText.{fixed_space}
 use Rattle.control_flow.specs.SourceLaw.{IsLine, line_weight, line_length, IsOneLine}
 use Rattle.word_laws.specs.Words.{is_inline}
-use Rattle.word_laws.specs.Numbers.{number_cells}
-use Rattle.j1_workbench.specs.Certificate.{is_certified}
-use Rattle.j1_workbench.specs.Layout.{is_straight, code_of, laid_out}
-use Rattle.j1_workbench.specs.Headline.{AreBytes, Agrees}
+use Rattle.j1_workbench.specs.Layout.{is_straight, code_of}
 use Rattle.j1_workbench.specs.HeadlineLaw.{LinesAgree}
 use Rattle.j1_workbench.proofs.LineSteps.{Laws, number_short}
 use Rattle.j1_workbench.proofs.LineImage.{first_world_is}

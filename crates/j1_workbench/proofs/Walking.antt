@@ -12,6 +12,11 @@ use Rattle.forth_program.specs.Program.{SourceProgram, uses_depth}
 use Rattle.forth_program.specs.ItemTrees.{node_of, nodes_of}
 use Rattle.j1_workbench.specs.Certificate.{changed, keeps_limits, goes_on, walks, most_cells}
 
+-- both of two tests
+pub both : (a b : Bool) → a && b ≡ true → (a ≡ true) × (b ≡ true)
+both true b e = (refl, e)
+both false b e = cc
+
 -- an item that is no number and no word has no certificate
 stops : (most cells : ℕ) (item : Item) (rest : Nodes) → ((value : ℕ) → item ≡ Literal value → ⊥) → ((word : table.Word) → item ≡ Word word → ⊥) → walks most (Then (node_of item) rest) cells ≡ false
 stops most cells (Literal value) rest not_number not_word = absurd (not_number value refl)

@@ -3,7 +3,7 @@
 use Rattle.std.specs.Prelude.{ℕ, suc, ◌+◌, ◌-◌, ℤ, pos, negsuc, Bool, true, false, ◌&&◌, nat_le, if◌then◌else◌, Option, Some, None}
 use Rattle.word_table.specs.declared.word.WordEntry.{WordEntry}
 use Rattle.word_table.specs.Table.{entry_of}
-use Rattle.forth_program.specs.Tree.{Node, Nodes, Literal, Plain, Empty, Then}
+use Rattle.forth_program.specs.Tree.{Nodes, Literal, Plain, Empty, Then}
 use Rattle.forth_program.specs.Program.{SourceProgram, body_of, uses_depth}
 
 -- so many cells after a change

@@ -78,7 +78,10 @@ pub fn write_note<N: Sink>(notes: &mut N, words: &[String], status: Status) -> R
         Status::Missing => write_line(notes, &[file_named(words).as_bytes(), b": missing"]),
         Status::SourceRefused(refusal) => {
             let number = digits.format(refusal.token).as_bytes();
-            write_line(notes, &[b"source token ", number, b": ", cause_named(refusal.cause)])
+            write_line(
+                notes,
+                &[b"source token ", number, b": ", cause_named(refusal.cause)],
+            )
         }
         Status::StepsUsed => write_line(notes, &[b"steps used"]),
         Status::InputEnded => write_line(notes, &[b"input ended"]),

@@ -1,20 +1,30 @@
 // Worked calls of the workbench, with answers from outside.
 mod reading;
+mod sources;
 mod vectors;
 mod words;
 
 use crate::{Status, status_number, workbench};
+use control_flow::{SourceCause, SourceRefusal};
 use outside_io::{MemFolder, MemSink, MemSource};
 use std::alloc::{AllocError, Global};
 use std::test::Fail;
 
-fn words_of(alloc: Global, texts: &[&str]) -> Result<Vec<String>, AllocError> {
-    let mut words = Vec::new(alloc);
-    for text in texts {
-        words.push(String::from_str(alloc, text)?)?;
-    }
-    Ok(words)
+// The numbers of the calls that fail: of the folder, the console, the output and the notes.
+#[derive(Clone, Copy)]
+struct Fails<'a> {
+    files: &'a [u32],
+    questions: &'a [u32],
+    writes: &'a [u32],
+    notes: &'a [u32],
 }
+
+const NEVER: Fails<'static> = Fails {
+    files: &[],
+    questions: &[],
+    writes: &[],
+    notes: &[],
+};
 
 // What a call of the workbench left.
 #[derive(Drop)]
@@ -24,57 +34,150 @@ struct Left {
     notes: MemSink,
 }
 
-// A call on a folder with one file, where the calls of these numbers fail.
+// A call with these words, split by blanks, on a folder with one file.
 fn call(
     alloc: Global,
-    words: &[&str],
+    words: &str,
     text: &[u8],
-    read_fails: &[u32],
-    write_fails: &[u32],
-    note_fails: &[u32],
+    input: &[u8],
+    fails: Fails,
 ) -> Result<Left, AllocError> {
-    let mut files = MemFolder::new(alloc, read_fails)?;
+    let mut list = Vec::new(alloc);
+    for word in words.split_whitespace() {
+        list.push(String::from_str(alloc, word)?)?;
+    }
+    call_words(alloc, list.as_slice(), text, input, fails)
+}
+
+fn call_words(
+    alloc: Global,
+    words: &[String],
+    text: &[u8],
+    input: &[u8],
+    fails: Fails,
+) -> Result<Left, AllocError> {
+    let mut files = MemFolder::new(alloc, fails.files)?;
     files.put("source.fs", text)?;
-    let mut console = MemSource::new(alloc, b"", &[])?;
-    let mut out = MemSink::new(alloc, 1000, write_fails)?;
-    let mut notes = MemSink::new(alloc, 1000, note_fails)?;
-    let words = words_of(alloc, words)?;
-    let status = workbench(
-        alloc,
-        words.as_slice(),
-        &mut files,
-        &mut console,
-        &mut out,
-        &mut notes,
-    );
+    let mut console = MemSource::new(alloc, input, fails.questions)?;
+    let mut out = MemSink::new(alloc, 1000, fails.writes)?;
+    let mut notes = MemSink::new(alloc, 1000, fails.notes)?;
+    let status = workbench(alloc, words, &mut files, &mut console, &mut out, &mut notes);
     Ok(Left { status, out, notes })
 }
 
+// The words of a call, and the line of its note behind `j1: `.
+const WORDS: &str = r#"
+                                 | bad words
+run                              | bad words
+run -x                           | bad words
+RUN source.fs                    | bad words
+run source.fs x                  | bad words
+run source.fs --steps            | bad words
+run source.fs --steps 1000000001 | bad words
+run source.fs --steps +1         | bad words
+bound source.fs                  | bad words
+net source.fs                    | bad words
+eval x --steps 20000001          | bad words
+make 65536 1                     | bad words
+make 0 0                         | bad words
+make 0 201                       | bad words
+eval X                           | not yet
+build a b                        | not yet
+exec a --steps 0                 | not yet
+forth                            | not yet
+make 65535 200                   | not yet
+run NONE                         | NONE: missing
+run NONE --steps 5               | NONE: missing
+run source.fs --steps 0          | steps used
+run source.fs                    |
+run source.fs --steps 1000000000 |
+"#;
+
+// The line of a note: none where there is nothing to tell.
+fn note_in(alloc: Global, text: &str) -> Result<String, AllocError> {
+    let text = text.trim_ascii();
+    if text.is_empty() {
+        return Ok(String::new(alloc));
+    }
+    format!(in alloc; "j1: {text}\n")
+}
+
 #[test]
-fn runs_texts(rt: HostRuntime) -> Result<(), Fail> {
-    let rows: [(&[u8], Status, &[u8], &[u8]); 9] = [
-        (b": MAIN 72 EMIT 105 EMIT ;", Status::Done, b"Hi", b""),
-        (b": MAIN ;", Status::Done, b"", b""),
+fn answers_words(rt: HostRuntime) -> Result<(), Fail> {
+    let alloc = rt.alloc();
+    for line in WORDS.trim_matches('\n').lines() {
+        let (words, note) = line.split_once('|').ok_or(line)?;
+        let left = call(alloc, words, b": MAIN ;", b"", NEVER)?;
+        assert_eq!(rt; left.out.held(), b"".as_slice(), "{line}");
+        assert_eq!(rt;
+            left.notes.held(),
+            note_in(alloc, note)?.as_bytes(),
+            "{line}"
+        );
+    }
+    let empty = [String::from_str(alloc, "run")?, String::new(alloc)];
+    let left = call_words(alloc, &empty, b": MAIN ;", b"", NEVER)?;
+    assert_eq!(rt; left.status, Status::BadWords);
+    Ok(())
+}
+
+#[test]
+fn tells_faults(rt: HostRuntime) -> Result<(), Fail> {
+    let alloc = rt.alloc();
+    let rows: [(&[u8], Fails, Status, &[u8], &[u8]); 5] = [
         (
-            b":\tmain\r\n0072 emit\t105 Emit ;\n",
-            Status::Done,
-            b"Hi",
+            b": MAIN 72 EMIT ;",
+            Fails {
+                files: &[1],
+                ..NEVER
+            },
+            Status::ReadFault,
             b"",
+            b"j1: read fault\n",
         ),
-        (b": MAIN 256 EMIT ;", Status::NotYet, b"", b"j1: not yet\n"),
-        (b": MAIN -1 EMIT ;", Status::NotYet, b"", b"j1: not yet\n"),
-        (b": MAIN 72 EMIT", Status::NotYet, b"", b"j1: not yet\n"),
-        (b": MAIN 72 EMIT ; ;", Status::NotYet, b"", b"j1: not yet\n"),
         (
-            b": MAIN\x0b72 EMIT ;",
-            Status::NotYet,
+            b": MAIN 72 EMIT ;",
+            Fails {
+                writes: &[1],
+                ..NEVER
+            },
+            Status::WriteFault,
             b"",
-            b"j1: not yet\n",
+            b"j1: write fault\n",
         ),
-        (b"", Status::NotYet, b"", b"j1: not yet\n"),
+        (
+            b": MAIN 72 EMIT KEY EMIT ;",
+            Fails {
+                questions: &[1],
+                ..NEVER
+            },
+            Status::ReadFault,
+            b"H",
+            b"j1: read fault\n",
+        ),
+        (
+            b"X",
+            Fails {
+                notes: &[2],
+                ..NEVER
+            },
+            Status::WriteFault,
+            b"",
+            b"j1: ",
+        ),
+        (
+            b": MAIN X ;",
+            Fails {
+                notes: &[4],
+                ..NEVER
+            },
+            Status::WriteFault,
+            b"",
+            b"j1: source token 3",
+        ),
     ];
-    for (text, status, printed, noted) in rows {
-        let left = call(rt.alloc(), &["run", "source.fs"], text, &[], &[], &[])?;
+    for (text, fails, status, printed, noted) in rows {
+        let left = call(alloc, "run source.fs", text, b"x", fails)?;
         assert_eq!(rt; left.status, status);
         assert_eq!(rt; left.out.held(), printed);
         assert_eq!(rt; left.notes.held(), noted);
@@ -83,125 +186,16 @@ fn runs_texts(rt: HostRuntime) -> Result<(), Fail> {
 }
 
 #[test]
-fn answers_words(rt: HostRuntime) -> Result<(), Fail> {
-    let rows: [(&[&str], Status, &[u8]); 22] = [
-        (&[], Status::BadWords, b"j1: bad words\n"),
-        (&["run"], Status::BadWords, b"j1: bad words\n"),
-        (&["run", ""], Status::BadWords, b"j1: bad words\n"),
-        (&["run", "-x"], Status::BadWords, b"j1: bad words\n"),
-        (&["RUN", "source.fs"], Status::BadWords, b"j1: bad words\n"),
-        (
-            &["run", "source.fs", "x"],
-            Status::BadWords,
-            b"j1: bad words\n",
-        ),
-        (
-            &["run", "source.fs", "--steps", "1000000001"],
-            Status::BadWords,
-            b"j1: bad words\n",
-        ),
-        (
-            &["run", "source.fs", "--steps", "+1"],
-            Status::BadWords,
-            b"j1: bad words\n",
-        ),
-        (
-            &["bound", "source.fs"],
-            Status::BadWords,
-            b"j1: bad words\n",
-        ),
-        (&["net", "source.fs"], Status::BadWords, b"j1: bad words\n"),
-        (
-            &["eval", "x", "--steps", "20000001"],
-            Status::BadWords,
-            b"j1: bad words\n",
-        ),
-        (
-            &["make", "65536", "1"],
-            Status::BadWords,
-            b"j1: bad words\n",
-        ),
-        (&["make", "0", "0"], Status::BadWords, b"j1: bad words\n"),
-        (&["make", "0", "201"], Status::BadWords, b"j1: bad words\n"),
-        (&["eval", "X"], Status::NotYet, b"j1: not yet\n"),
-        (
-            &["run", "source.fs", "--steps", "1000000000"],
-            Status::NotYet,
-            b"j1: not yet\n",
-        ),
-        (&["build", "a", "b"], Status::NotYet, b"j1: not yet\n"),
-        (
-            &["exec", "a", "--steps", "0"],
-            Status::NotYet,
-            b"j1: not yet\n",
-        ),
-        (&["forth"], Status::NotYet, b"j1: not yet\n"),
-        (&["make", "65535", "200"], Status::NotYet, b"j1: not yet\n"),
-        (&["run", "NONE"], Status::Missing, b"j1: NONE: missing\n"),
-        (&["run", "source.fs"], Status::Done, b""),
-    ];
-    for (words, status, noted) in rows {
-        let left = call(rt.alloc(), words, b": MAIN ;", &[], &[], &[])?;
-        assert_eq!(rt; left.status, status);
-        assert_eq!(rt; left.out.held(), b"".as_slice());
-        assert_eq!(rt; left.notes.held(), noted);
-    }
-    Ok(())
-}
-
-#[test]
-fn tells_faults(rt: HostRuntime) -> Result<(), Fail> {
-    let words = ["run", "source.fs"];
-    let left = call(rt.alloc(), &words, b": MAIN 72 EMIT ;", &[1], &[], &[])?;
-    assert_eq!(rt; left.status, Status::ReadFault);
-    assert_eq!(rt; left.out.held(), b"".as_slice());
-    assert_eq!(rt; left.notes.held(), b"j1: read fault\n".as_slice());
-    let left = call(rt.alloc(), &words, b": MAIN 72 EMIT ;", &[], &[1], &[])?;
-    assert_eq!(rt; left.status, Status::WriteFault);
-    assert_eq!(rt; left.notes.held(), b"j1: write fault\n".as_slice());
-    let left = call(rt.alloc(), &words, b"x", &[], &[], &[2])?;
-    assert_eq!(rt; left.status, Status::WriteFault);
-    assert_eq!(rt; left.notes.held(), b"j1: ".as_slice());
-    Ok(())
-}
-
-// A text of so many pairs.
-fn pairs(alloc: Global, count: usize) -> Result<Vec<u8>, AllocError> {
-    let mut text = Vec::from_slice(alloc, b": MAIN")?;
-    for _ in 0..count {
-        text.extend_from_slice(b" 65 EMIT")?;
-    }
-    text.extend_from_slice(b" ;")?;
-    Ok(text)
-}
-
-#[test]
-fn keeps_limits(rt: HostRuntime) -> Result<(), Fail> {
-    let alloc = rt.alloc();
-    let words = ["run", "source.fs"];
-    let text = pairs(alloc, 479)?;
-    let left = call(alloc, &words, text.as_slice(), &[], &[], &[])?;
-    assert_eq!(rt; left.status, Status::Done);
-    assert_eq!(rt; left.out.held().len(), 479);
-    let text = pairs(alloc, 480)?;
-    let left = call(alloc, &words, text.as_slice(), &[], &[], &[])?;
-    assert_eq!(rt; left.status, Status::NotYet);
-    let mut text = Vec::from_slice(alloc, b": MAIN 72 EMIT ;")?;
-    text.resize(65_536, b' ')?;
-    let left = call(alloc, &words, text.as_slice(), &[], &[], &[])?;
-    assert_eq!(rt; left.status, Status::Done);
-    text.push(b' ')?;
-    let left = call(alloc, &words, text.as_slice(), &[], &[], &[])?;
-    assert_eq!(rt; left.status, Status::NotYet);
-    Ok(())
-}
-
-#[test]
 fn numbers_statuses(rt: HostRuntime) {
+    let refusal = SourceRefusal {
+        token: 1,
+        cause: SourceCause::NoMain,
+    };
     for (status, number) in [
         (Status::Done, 0u8),
         (Status::BadWords, 1),
         (Status::Missing, 2),
+        (Status::SourceRefused(refusal), 3),
         (Status::StepsUsed, 6),
         (Status::InputEnded, 7),
         (Status::Outside(0), 8),
@@ -209,6 +203,7 @@ fn numbers_statuses(rt: HostRuntime) {
         (Status::ReadFault, 10),
         (Status::WriteFault, 11),
         (Status::OutOfMemory, 12),
+        (Status::TooLarge, 13),
         (Status::NotYet, 15),
     ] {
         assert_eq!(rt; status_number(&status), number);

@@ -42,7 +42,7 @@ pub(super) fn cells_in(alloc: Global, list: &str, base: u16) -> Result<Vec<u16>,
 }
 
 // The low bytes of the numbers of a list.
-fn bytes_in(alloc: Global, list: &str) -> Result<Vec<u8>, Fail> {
+pub(super) fn bytes_in(alloc: Global, list: &str) -> Result<Vec<u8>, Fail> {
     let mut bytes = Vec::new(alloc);
     for cell in cells_in(alloc, list, 10)?.as_slice() {
         bytes.push((*cell % 256) as u8)?;
@@ -184,7 +184,7 @@ fn counts_depths(rt: HostRuntime) -> Result<(), Fail> {
 
 // Phrases of numbers and words: the cells that they leave, the top last, what they print, their input, and their finish. A loop
 // keeps on the return stack its limit and, above it, index less limit.
-const PHRASES: &str = r#"
+pub(super) const PHRASES: &str = r#"
 1 2 DUP                                  | 1 2 2
 1 2 DROP                                 | 1
 1 2 SWAP                                 | 2 1

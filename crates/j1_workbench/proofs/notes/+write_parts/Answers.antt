@@ -1,6 +1,5 @@
-use Rattle.std.proofs.Common.{map, length, take, drop, get_or, ◌-◌, [], sym, subst, rules}
+use Rattle.std.proofs.Common.{sym, subst, rules}
 use Rattle.outside_io.specs.Bytes.{WritesAll}
-use Rattle.j1_workbench.specs.Notes.{ended}
 use Rattle.j1_workbench.proofs.Appending.{fails_early, writes_then, parts_ended}
 use Rattle.j1_workbench.proofs.notes.+write_parts.Goals as goal
 
