@@ -206,17 +206,17 @@ holds_all (Some old) None printed h = absurd h
 holds_all (Some old) (Some new) printed h = (h.0, h.1, ([], h.2))
 
 -- at most n instructions, with all written out
-pub made_all : {first machine : MachineState} {told : Option (List ℕ)} {k : ℕ} {left before now later : Option (List ℕ)} {buffer : List ℕ} (n : ℕ) (result : Result Finish DriveError) → k ≤ n → (result ≡ Ok StepsUsed → k ≡ n) → Underway first told k machine left before now buffer → Appends now later buffer → MadeAtMost n result first machine before later
-made_all {first} {machine} {told} {k} {left} {before} {now} {later} {buffer} n result le all u bytes =
+pub made_all : {first machine : MachineState} {told : Option (List ℕ)} {k : ℕ} {left before now later : Option (List ℕ)} {buffer : List ℕ} (n : ℕ) (result : Result Finish DriveError) → k ≤ n → (result ≡ Ok StepsUsed → k ≡ n) → (result ≡ Err Read → ⊥) → Underway first told k machine left before now buffer → Appends now later buffer → MadeAtMost n result first machine before later
+made_all {first} {machine} {told} {k} {left} {before} {now} {later} {buffer} n result le all read u bytes =
     let a = u.on [] (λ e. refl) in
     let h : Holds before later [] (driven first k (input_for first.given (u.bytes ++ []))).printed = holds_flushed before now later buffer _ a.out bytes in
-    record { made = k; within = le; all = all; bytes = u.bytes ++ []; stands = a.stands; written = λ w. h; front = holds_all before later _ h }
+    record { made = k; within = le; all = all; fewer = λ e. absurd (read e); bytes = u.bytes ++ []; stands = a.stands; written = λ w. h; front = holds_all before later _ h }
 
 -- and where the last flush failed
 pub made_front : {first machine : MachineState} {told : Option (List ℕ)} {k : ℕ} {left before now later : Option (List ℕ)} {buffer : List ℕ} (n : ℕ) (result : Result Finish DriveError) → k ≤ n → result ≡ Err Write → Underway first told k machine left before now buffer → AppendsFront now later buffer → MadeAtMost n result first machine before later
 made_front {first} {machine} {told} {k} {left} {before} {now} {later} {buffer} n result le failed u bytes =
     let a = u.on [] (λ e. refl) in
-    record { made = k; within = le; all = λ e. cc; bytes = u.bytes ++ []; stands = a.stands; written = λ w. absurd (w failed); front = holds_front before now later buffer _ a.out bytes }
+    record { made = k; within = le; all = λ e. cc; fewer = λ e. cc; bytes = u.bytes ++ []; stands = a.stands; written = λ w. absurd (w failed); front = holds_front before now later buffer _ a.out bytes }
 
 stands_next : (first : MachineState) (k : ℕ) (input : List ℕ) (new : MachineState) → StandsAt (advance first.data_start (driven first k input)) (driven_fits first k input && counters_fit (advance first.data_start (driven first k input))) new first.data_start → StandsAt (driven first (suc k) input) (driven_fits first (suc k) input) new first.data_start
 stands_next first k input new s = subst (λ x. StandsAt x (driven_fits first k input && counters_fit x) new first.data_start) (sym (run_suc k first.data_start (going_on first input))) s
@@ -227,11 +227,11 @@ front_next first k input before now h = subst (λ x. HoldsFront before now x.pri
 made_before : (error : DriveError) (n : ℕ) (result : Result Finish DriveError) (first : MachineState) (k : ℕ) (bytes : List ℕ) (old new : MachineState) (taken : Option (Option ℕ)) (after before now later : Option (List ℕ)) (buffer waiting : List ℕ) → suc k ≤ n → result ≡ Err error → Before first k bytes old taken after before now buffer → Runs (Err error) old new taken before now later buffer waiting → MadeAtMost n result first new before later
 made_before Read n result first k bytes old new taken after before now later buffer waiting le failed b runs =
     let a = runs (driven first k (input_for first.given bytes)) (driven_fits first k (input_for first.given bytes)) first.data_start _ _ b.1 b.2 in
-    record { made = k; within = omega arith; all = λ e. cc; bytes = bytes; stands = a.stands; written = λ w. a.out; front = holds_all before later _ a.out }
+    record { made = k; within = omega arith; all = λ e. cc; fewer = λ e. omega arith; bytes = bytes; stands = a.stands; written = λ w. a.out; front = holds_all before later _ a.out }
 made_before Write n result first k bytes old new taken after before now later buffer waiting le failed b runs =
     ⊎_elim
-    (λ s. record { made = k; within = omega arith; all = λ e. cc; bytes = bytes; stands = s.0; written = λ w. absurd (w failed); front = s.1 })
-    (λ s. record { made = suc k; within = le; all = λ e. cc; bytes = bytes; stands = stands_next first k (input_for first.given bytes) new s.0; written = λ w. absurd (w failed); front = front_next first k (input_for first.given bytes) before later s.1 })
+    (λ s. record { made = k; within = omega arith; all = λ e. cc; fewer = λ e. cc; bytes = bytes; stands = s.0; written = λ w. absurd (w failed); front = s.1 })
+    (λ s. record { made = suc k; within = le; all = λ e. cc; fewer = λ e. cc; bytes = bytes; stands = stands_next first k (input_for first.given bytes) new s.0; written = λ w. absurd (w failed); front = front_next first k (input_for first.given bytes) before later s.1 })
     (runs (driven first k (input_for first.given bytes)) (driven_fits first k (input_for first.given bytes)) first.data_start _ _ b.1 b.2)
 
 -- at most n instructions where a turn failed

@@ -1,6 +1,6 @@
 -- What a driven machine, its console and its output stand for.
 -- `None` in place of bytes means that an object does not tell its bytes.
-use Rattle.std.specs.Prelude.{ℕ, zero, suc, ◌≡◌, ◌≤◌, ◌^◌, nat_lt, Bool, ◌&&◌, IsTrue, ℤ, pos, negsuc, List, [], ◌∷◌, ◌++◌, Option, Some, None, option_map, ⊤, Result, Ok, Err}
+use Rattle.std.specs.Prelude.{ℕ, zero, suc, ◌≡◌, ◌<◌, ◌≤◌, ◌^◌, nat_lt, Bool, ◌&&◌, IsTrue, ℤ, pos, negsuc, List, [], ◌∷◌, ◌++◌, Option, Some, None, option_map, ⊤, Result, Ok, Err}
 use Rattle.j1_simulator.specs.declared.ends.Event.{Event}
 use Rattle.j1_simulator.specs.declared.ends.End.{End}
 use Rattle.j1_simulator.specs.declared.ends.Event.TheVariants.{Went, Printed, WantsByte}
@@ -8,7 +8,7 @@ use Rattle.j1_simulator.specs.declared.ends.Event.TheVariants as events
 use Rattle.j1_simulator.specs.declared.ends.Finish.{Finish}
 use Rattle.j1_simulator.specs.declared.ends.Finish.TheVariants.{Ended, StepsUsed}
 use Rattle.j1_simulator.specs.declared.ends.DriveError.{DriveError}
-use Rattle.j1_simulator.specs.declared.ends.DriveError.TheVariants.{Write}
+use Rattle.j1_simulator.specs.declared.ends.DriveError.TheVariants.{Read, Write}
 use Rattle.j1_simulator.specs.Step.{By}
 use Rattle.j1_simulator.specs.RoundMachine.{RingCells, round_storage}
 use Rattle.j1_simulator.specs.MachineState.{MachineState, Depths}
@@ -104,12 +104,14 @@ abbrev pub IsDriven : MachineState → ℕ → List ℕ → MachineState → Opt
 IsDriven old n bytes new left before now buffer =
     IsAt (driven old n (input_for old.given bytes)) (driven_fits old n (input_for old.given bytes)) new old.data_start (left_of old.given n left) before now buffer
 
--- the machine has made at most n instructions of its run on some bytes of the console, all n where the answer is StepsUsed;
+-- the machine has made at most n instructions of its run on some bytes of the console: all n where the answer is StepsUsed,
+-- fewer where a read failed;
 -- what they printed stands in out, where it tells its bytes, or a beginning of it after a failed write
 pub record MadeAtMost (n : ℕ) (result : Result Finish DriveError) (old new : MachineState) (before now : Option (List ℕ)) : Type 0 where
   pub made : ℕ
   pub within : made ≤ n
   pub all : result ≡ Ok StepsUsed → made ≡ n
+  pub fewer : result ≡ Err Read → made < n
   pub bytes : List ℕ
   pub stands : StandsAt (driven old made (input_for old.given bytes)) (driven_fits old made (input_for old.given bytes)) new old.data_start
   pub written : (result ≡ Err Write → ⊥) → Holds before now [] (driven old made (input_for old.given bytes)).printed

@@ -30,7 +30,7 @@ BeginsAtStart = (image : Content) (input : List ℕ) → IsAt (round_run image i
 abbrev pub WantsExactly : Type 0
 WantsExactly = (machine new : MachineState) (event : Event) → Steps machine.ended event machine new → ((event ≡ WantsByte) ↔ WantsAByte machine) × (event ≡ WantsByte → new ≡ machine)
 
--- a step that does not want a byte is the next instruction of the run; what its event tells is printed
+-- a step of a machine that was given nothing, and does not want a byte, is the next instruction of the run; what its event tells is printed
 abbrev pub StepIsInstruction : Type 0
 StepIsInstruction =
     (from : Configuration ℕ RingCells) (fits : Bool) (machine new : MachineState) (event : Event) (data_start : ℕ) (left before now : Option (List ℕ)) (buffer : List ℕ) →

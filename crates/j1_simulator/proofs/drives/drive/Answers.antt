@@ -63,7 +63,7 @@ returns-in-Some-clause-run g c =
 
 pub returns-in-Some-clause-at_most : goal.returns-in-Some-clause-at_most
 returns-in-Some-clause-at_most g c =
-    made_all c.args.n _ (omega arith) (λ e. cc) (drives_on c.loop-made.invariant.at c.in_ok-end.ensures.run c.in_ok-end.ensures.over c.in_ok-end.ensures.given) c.in_ok-flush.ensures.bytes
+    made_all c.args.n _ (omega arith) (λ e. cc) (λ e. cc) (drives_on c.loop-made.invariant.at c.in_ok-end.ensures.run c.in_ok-end.ensures.over c.in_ok-end.ensures.given) c.in_ok-flush.ensures.bytes
 
 pub returns-in_err-flush-2-clause-at_most : goal.returns-in_err-flush-2-clause-at_most
 returns-in_err-flush-2-clause-at_most g c =
@@ -77,10 +77,10 @@ pub returns-in-Some-ended-clause-run : goal.returns-in-Some-ended-clause-run
 returns-in-Some-ended-clause-run g c = run_here _ c.args.n (omega arith) c.loop-made.invariant.at c.in_ok-flush-2.ensures.bytes
 
 pub returns-in-Some-ended-clause-at_most : goal.returns-in-Some-ended-clause-at_most
-returns-in-Some-ended-clause-at_most g c = made_all c.args.n _ c.loop-made.invariant.within (λ e. cc) c.loop-made.invariant.at c.in_ok-flush-2.ensures.bytes
+returns-in-Some-ended-clause-at_most g c = made_all c.args.n _ c.loop-made.invariant.within (λ e. cc) (λ e. cc) c.loop-made.invariant.at c.in_ok-flush-2.ensures.bytes
 
 pub returns-in-None-clause-run : goal.returns-in-None-clause-run
 returns-in-None-clause-run g c = run_here _ c.args.n (omega arith) c.loop-made.invariant.at c.in_ok-flush-2.ensures.bytes
 
 pub returns-in-None-clause-at_most : goal.returns-in-None-clause-at_most
-returns-in-None-clause-at_most g c = made_all c.args.n _ c.loop-made.invariant.within (λ e. omega arith) c.loop-made.invariant.at c.in_ok-flush-2.ensures.bytes
+returns-in-None-clause-at_most g c = made_all c.args.n _ c.loop-made.invariant.within (λ e. omega arith) (λ e. cc) c.loop-made.invariant.at c.in_ok-flush-2.ensures.bytes
