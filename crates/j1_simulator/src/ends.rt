@@ -1,4 +1,5 @@
 // Events of a step, and how a run ends.
+use thiserror::Error;
 
 /// How a run ends.
 #[derive(Clone, Copy, Debug, PartialEq, Eq)]
@@ -34,10 +35,12 @@ pub enum Finish {
 }
 
 /// Why a drive broke off.
-#[derive(Clone, Copy, Debug, PartialEq, Eq)]
+#[derive(Clone, Copy, Debug, PartialEq, Eq, Error)]
 pub enum DriveError {
     /// The console failed. All that was printed has been written, and the machine still wants its byte.
+    #[error("the console could not be read")]
     Read,
     /// The output failed. It holds a beginning of what was printed.
+    #[error("the output could not be written")]
     Write,
 }

@@ -6,7 +6,7 @@ mod words;
 
 use crate::{Status, status_number, workbench};
 use control_flow::{SourceCause, SourceRefusal};
-use outside_io::{MemFolder, MemSink, MemSource};
+use outside_io::{Folder, MemFolder, MemSink, MemSource, PutFault};
 use std::alloc::{AllocError, Global};
 use std::test::Fail;
 
@@ -182,6 +182,24 @@ fn tells_faults(rt: HostRuntime) -> Result<(), Fail> {
         assert_eq!(rt; left.out.held(), printed);
         assert_eq!(rt; left.notes.held(), noted);
     }
+    Ok(())
+}
+
+#[test]
+fn keeps_files(rt: HostRuntime) -> Result<(), Fail> {
+    let alloc = rt.alloc();
+    let mut files = MemFolder::new(alloc, &[4])?;
+    files.put("a", b"one")?;
+    assert_eq!(rt; files.write(alloc, "b", b"two"), Ok(()));
+    assert_eq!(rt; files.write(alloc, "a", b"three"), Ok(()));
+    match files.read(alloc, "a", 4) {
+        Ok(bytes) => assert_eq!(rt; bytes.as_slice(), b"thre".as_slice()),
+        Err(fault) => assert!(rt; false, "{fault:?}"),
+    }
+    assert_eq!(rt; files.write(alloc, "c", b"four"), Err(PutFault::Failed));
+    assert_eq!(rt; files.file("a"), Some(b"three".as_slice()));
+    assert_eq!(rt; files.file("b"), Some(b"two".as_slice()));
+    assert_eq!(rt; files.file("d"), None);
     Ok(())
 }
 
