@@ -7,7 +7,6 @@ ghost use Rattle.outside_io.specs.Files.{Lacks, IsLacking, KeepsFiles};
 ghost use Rattle.forth_program.specs.Program.{SourceProgram};
 ghost use Rattle.j1_workbench.specs.Words.{request_of, steps_allowed};
 ghost use Rattle.j1_workbench.specs.Judgement.{judged, Compiles, IsAnswered};
-ghost use Rattle.j1_workbench.specs.Headline.{AreBytes};
 ghost use Rattle.j1_workbench.specs.declared.status.Status.{Status as Answer};
 ghost use Rattle.j1_workbench.specs.Notes.{note_of};
 ghost use Rattle.j1_workbench.specs.Answers.{AsksToRun, AsksForMore, HoldsTextOf, NeverRuns, text_in, IsTextAnswer, IsRefusal, IsUntouched, UnlessNoteFails, IsCompiled, TellsNote};
@@ -34,7 +33,7 @@ pub fn workbench<F: Folder, C: Source, O: Sink, N: Sink>(
 ) -> Status
     // What was compiled and run printed what its source means.
     ensures headline { (source text input : List ℕ) (steps : Option ℕ) (program : SourceProgram) → AsksToRun (request_of (map string_bytes words.now)) source steps →
-        text_in (F.files files.old) source ≡ Some text → judged text ≡ Compiles program → C.left console.old ≡ Some input → AreBytes input →
+        text_in (F.files files.old) source ≡ Some text → judged text ≡ Compiles program → C.left console.old ≡ Some input →
         IsCompiled program input (steps_allowed steps) result (C.left console.new) (O.held out.old) (O.held out.new) }
 
     // Each answer has its cause.

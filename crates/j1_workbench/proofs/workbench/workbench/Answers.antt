@@ -5,12 +5,12 @@ use Rattle.j1_workbench.proofs.Compiled.{compiled, compiled_without_note}
 use Rattle.j1_workbench.proofs.workbench.workbench.Goals as goal
 
 pub returns-in-Ok-clause-headline : goal.returns-in-Ok-clause-headline
-returns-in-Ok-clause-headline g c = λ source text input steps program asks told built left bytes.
-    compiled c.lines_agree.ensures c.programs_are_lines.ensures text input program _ _ _ _ _ _ built left bytes (c.answer-status.ensures.run source text steps program asks told built)
+returns-in-Ok-clause-headline g c = λ source text input steps program asks told built left.
+    compiled c.lines_agree.ensures c.programs_are_lines.ensures text input program _ _ _ _ _ _ built left (c.answer-status.ensures.run source text steps program asks told built)
 
 pub returns-in-Err-clause-headline : goal.returns-in-Err-clause-headline
-returns-in-Err-clause-headline g c = λ source text input steps program asks told built left bytes.
-    compiled_without_note c.lines_agree.ensures c.programs_are_lines.ensures text input program _ _ _ _ _ _ built left bytes (c.answer-status.ensures.run source text steps program asks told built) (λ refusal. (c.answer-status.ensures.refused refusal).1.bytes)
+returns-in-Err-clause-headline g c = λ source text input steps program asks told built left.
+    compiled_without_note c.lines_agree.ensures c.programs_are_lines.ensures text input program _ _ _ _ _ _ built left (c.answer-status.ensures.run source text steps program asks told built) (λ refusal. (c.answer-status.ensures.refused refusal).1.bytes)
 
 pub returns-in-Ok-clause-missing : goal.returns-in-Ok-clause-missing
 returns-in-Ok-clause-missing g c = λ source steps asks lacking. inl (c.answer-status.ensures.lacking source steps asks lacking)
