@@ -105,69 +105,51 @@ fn drives_images(rt: HostRuntime) -> Result<(), Fail> {
     Ok(())
 }
 
-#[test]
-fn writes_in_order(rt: HostRuntime) -> Result<(), Fail> {
-    let alloc = rt.alloc();
-    // `A` without end, where the second write fails: the first was a full buffer
-    let mut out = MemSink::new(alloc, 1000, &[2])?;
-    let drove = drive_code(
-        alloc,
-        &[0x8041, 0xC000, 0x6023, 0x6103],
-        5000,
-        b"",
-        &[],
-        &mut out,
-    )?;
-    assert_eq!(rt; drove, Err(DriveError::Write));
-    assert_eq!(rt; out.held().len(), 512);
-    // `A` is written out before the question for a byte, and one byte is asked for
-    let code = [
-        0x8041, 0xC000, 0x6023, 0x6103, 0xC002, 0x6C00, 0x8000, 0xC004, 0x6023,
-    ];
-    let mut out = MemSink::new(alloc, 1000, &[])?;
-    let drove = drive_code(alloc, &code, 99, b"xy", &[1], &mut out)?;
-    assert_eq!(rt; drove, Err(DriveError::Read));
-    assert_eq!(rt; out.held(), b"A".as_slice());
-    let mut out = MemSink::new(alloc, 1000, &[])?;
-    let drove = drive_code(alloc, &code, 99, b"xy", &[2], &mut out)?;
-    assert_eq!(rt; drove, Ok(Finish::Ended(End::Halted(0))));
-    Ok(())
-}
-
 // Prints `A`, and then a byte of the input, again and again.
 const ECHO: [u16; 10] = [
     0x8041, 0xC000, 0x6023, 0x6103, 0xC002, 0x6C00, 0xC000, 0x6023, 0x6103, 0x0000,
 ];
 
-// Three questions and four writes; each fails in turn, and a call behind the last does not come.
+// Prints `A`, takes a byte and halts.
+const ASK: [u16; 9] = [
+    0x8041, 0xC000, 0x6023, 0x6103, 0xC002, 0x6C00, 0x8000, 0xC004, 0x6023,
+];
+
+// What is printed is written out before the question for a byte, and one byte is asked for. Three questions and four writes of the
+// echo fail in turn, and a call behind the last does not come.
 #[test]
 fn fails_at_each_call(rt: HostRuntime) -> Result<(), Fail> {
     let ended = Ok(Finish::Ended(End::InputEnded));
-    let reads: [(&[u32], Result<Finish, DriveError>, &[u8]); 4] = [
-        (&[1], Err(DriveError::Read), b"A"),
-        (&[2], Err(DriveError::Read), b"AxA"),
-        (&[3], Err(DriveError::Read), b"AxAyA"),
-        (&[4], ended, b"AxAyA"),
+    let rows: [(&[u16], &[u32], &[u32], Result<Finish, DriveError>, &[u8]); 11] = [
+        (&ASK, &[1], &[], Err(DriveError::Read), b"A"),
+        (&ASK, &[2], &[], Ok(Finish::Ended(End::Halted(0))), b"A"),
+        (&ECHO, &[1], &[], Err(DriveError::Read), b"A"),
+        (&ECHO, &[2], &[], Err(DriveError::Read), b"AxA"),
+        (&ECHO, &[3], &[], Err(DriveError::Read), b"AxAyA"),
+        (&ECHO, &[4], &[], ended, b"AxAyA"),
+        (&ECHO, &[], &[1], Err(DriveError::Write), b""),
+        (&ECHO, &[], &[2], Err(DriveError::Write), b"A"),
+        (&ECHO, &[], &[3], Err(DriveError::Write), b"AxA"),
+        (&ECHO, &[], &[4], Err(DriveError::Write), b"AxAyA"),
+        (&ECHO, &[], &[5], ended, b"AxAyA"),
     ];
-    for (fails, finish, printed) in reads {
-        let mut out = MemSink::new(rt.alloc(), 1000, &[])?;
-        let drove = drive_code(rt.alloc(), &ECHO, 999, b"xy", fails, &mut out)?;
+    for (code, read_fails, write_fails, finish, printed) in rows {
+        let mut out = MemSink::new(rt.alloc(), 1000, write_fails)?;
+        let drove = drive_code(rt.alloc(), code, 999, b"xy", read_fails, &mut out)?;
         assert_eq!(rt; drove, finish);
         assert_eq!(rt; out.held(), printed);
     }
-    let writes: [(&[u32], Result<Finish, DriveError>, &[u8]); 5] = [
-        (&[1], Err(DriveError::Write), b""),
-        (&[2], Err(DriveError::Write), b"A"),
-        (&[3], Err(DriveError::Write), b"AxA"),
-        (&[4], Err(DriveError::Write), b"AxAyA"),
-        (&[5], ended, b"AxAyA"),
-    ];
-    for (fails, finish, printed) in writes {
-        let mut out = MemSink::new(rt.alloc(), 1000, fails)?;
-        let drove = drive_code(rt.alloc(), &ECHO, 999, b"xy", &[], &mut out)?;
-        assert_eq!(rt; drove, finish);
-        assert_eq!(rt; out.held(), printed);
-    }
+    Ok(())
+}
+
+// `A` without end, where the second write fails: the first was a full buffer.
+#[test]
+fn writes_a_full_buffer(rt: HostRuntime) -> Result<(), Fail> {
+    let mut out = MemSink::new(rt.alloc(), 1000, &[2])?;
+    let code = [0x8041, 0xC000, 0x6023, 0x6103];
+    let drove = drive_code(rt.alloc(), &code, 5000, b"", &[], &mut out)?;
+    assert_eq!(rt; drove, Err(DriveError::Write));
+    assert_eq!(rt; out.held().len(), 512);
     Ok(())
 }
 
