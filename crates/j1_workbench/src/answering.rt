@@ -11,14 +11,11 @@ ghost use Rattle.j1_workbench.specs.Answers.{AsksToRun, AsksForMore, HasNoProgra
 
 use crate::layout::lay_out;
 use crate::running::run_image;
-use crate::source::judge;
+use crate::source::{MOST_SOURCE, judge};
 use crate::status::Status;
 use crate::words::{Command, command_of};
 use outside_io::{FileFault, Folder, Sink, Source};
 use std::alloc::Global;
-
-// One byte more than a source may have.
-const MOST_SOURCE: usize = 65_537;
 
 // Compiles and runs a source text.
 fn run_text<C: Source, O: Sink>(
@@ -109,7 +106,8 @@ fn run_source<F: Folder, C: Source, O: Sink>(
     ensures console_faults { C.faults console.old ≤ C.faults console.new }
     ensures out_faults { O.faults out.old ≤ O.faults out.new }
 {
-    match files.read(alloc, source, MOST_SOURCE) {
+    // one byte more than a source may have tells that it is too large
+    match files.read(alloc, source, MOST_SOURCE + 1) {
         Ok(text) => run_text(alloc, text.as_slice(), steps, console, out),
         Err(FileFault::Absent) => Status::Missing,
         Err(FileFault::Failed) => Status::ReadFault,

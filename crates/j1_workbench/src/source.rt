@@ -11,8 +11,8 @@ use control_flow::{SourceError, programs_are_lines, read_program};
 use forth_program::Program;
 use std::alloc::Global;
 
-// A source has at most so many bytes.
-const MOST_SOURCE: usize = 65_536;
+/// The most bytes of a source.
+pub const MOST_SOURCE: usize = 65_536;
 
 /// The certified program of a source text, or the answer of a call whose text is not compiled.
 #[tactic(auto, unfolding(crate::specs::Judgement::judged))]

@@ -1,6 +1,7 @@
 // Whole sources, from their text to what the chip prints.
 use super::vectors::{PHRASES, bytes_in, cells_in};
 use super::{NEVER, call, note_in};
+use crate::Status;
 use std::alloc::{AllocError, Global};
 use std::test::Fail;
 
@@ -57,6 +58,7 @@ const SOURCES: &str = r#"
 : MAIN ; ;                                 |         |           | not yet
 X : MAIN ;                                 |         |           | not yet
 65536 : MAIN ;                             |         |           | not yet
+A2345678901234567890123456789012 : MAIN ;  |         |           | source token 1: NameTooLong
 : MAIN 0 IF THEN ;                         |         |           | not yet
 : MAIN 1 >R ;                              |         |           | not yet
 : MAIN ." abc                              |         |           | not yet
@@ -169,17 +171,36 @@ fn keeps_limits(rt: HostRuntime) -> Result<(), Fail> {
             "{line}"
         );
     }
-    // a source has at most 65,536 bytes
-    let mut blanks = Vec::new(alloc);
-    blanks.resize(65_536, b' ')?;
-    let left = call(alloc, "run source.fs", blanks.as_slice(), b"", NEVER)?;
-    assert_eq!(rt;
-        left.notes.held(),
-        b"j1: source token 1: NoMain\n".as_slice()
-    );
-    blanks.push(b' ')?;
-    let left = call(alloc, "run source.fs", blanks.as_slice(), b"", NEVER)?;
-    assert_eq!(rt; left.notes.held(), b"j1: source.fs: too large\n".as_slice());
+    Ok(())
+}
+
+#[test]
+fn prints_many_bytes(rt: HostRuntime) -> Result<(), Fail> {
+    let alloc = rt.alloc();
+    let mut text = Vec::from_slice(alloc, b": MAIN")?;
+    for _ in 0..479 {
+        text.extend_from_slice(b" 65 EMIT")?;
+    }
+    text.extend_from_slice(b" ;")?;
+    let left = call(alloc, "run source.fs", text.as_slice(), b"", NEVER)?;
+    assert_eq!(rt; left.status, Status::Done);
+    assert_eq!(rt; left.out.held().len(), 479);
+    Ok(())
+}
+
+// A source has at most 65,536 bytes.
+#[test]
+fn reads_no_larger_source(rt: HostRuntime) -> Result<(), Fail> {
+    let rows: [(usize, &[u8]); 2] = [
+        (65_536, b"j1: source token 1: NoMain\n"),
+        (65_537, b"j1: source.fs: too large\n"),
+    ];
+    for (size, noted) in rows {
+        let mut blanks = Vec::new(rt.alloc());
+        blanks.resize(size, b' ')?;
+        let left = call(rt.alloc(), "run source.fs", blanks.as_slice(), b"", NEVER)?;
+        assert_eq!(rt; left.notes.held(), noted);
+    }
     Ok(())
 }
 

@@ -168,6 +168,26 @@ fn counts_depths(rt: HostRuntime) -> Result<(), Fail> {
 // keeps on the return stack its limit and, above it, index less limit.
 pub(super) const PHRASES: &str = r#"
 1 2 DUP                                  | 1 2 2
+65535 DUP                                | 65535 65535
+0 65535 DROP                             | 0
+32768 32767 SWAP                         | 32767 32768
+65535 0 OVER                             | 65535 0 65535
+0 32767 65535 ROT                        | 32767 65535 0
+32768 65535 2DUP                         | 32768 65535 32768 65535
+7 32768 65535 2DROP                      | 7
+0 S>D 1 S>D 32767 S>D                    | 0 0 1 0 32767 0
+32768 S>D 65535 S>D                      | 32768 65535 65535 65535
+0 8320 ! 8320 @ 1 8320 ! 8320 @          | 0 1
+32767 8320 ! 8320 @ 32768 8320 ! 8321 @  | 32767 32768
+65535 16383 ! 16382 @ 8192 @             | 65535 10
+0 EMIT 1 EMIT 32767 EMIT                 |             | 0 1 255
+32768 EMIT 65535 EMIT                    |             | 0 255
+0 @                                      |             |       |         | outside 0
+1 @                                      |             |       |         | outside 0
+32767 @                                  |             |       |         | outside 32766
+32768 @                                  |             |       |         | outside 32768
+65535 @                                  |             |       |         | outside 65534
+7 65535 !                                |             |       |         | outside 65534
 1 2 DROP                                 | 1
 1 2 SWAP                                 | 2 1
 1 2 OVER                                 | 1 2 1
