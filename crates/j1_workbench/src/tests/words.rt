@@ -105,7 +105,7 @@ const TABLE: &str = r#"
 | `/MOD` | library | n m -- r q | 2 | 0 | 12 | 10 | 3600 | 1 | | remainder and quotient, rounded down |
 | `/` | library | n m -- q | 2 | -1 | 12 | 11 | 3700 | 1 | | the quotient, rounded down |
 | `MOD` | library | n m -- r | 2 | -1 | 12 | 11 | 3700 | 1 | | the remainder of the quotient that is rounded down |
-| `*/MOD` | library | n m k -- r q | 3 | -1 | 12 | 11 | 5200 | 1 | | remainder and quotient of the double product n * m by k |
+| `*/MOD` | library | n m k -- r q | 3 | -1 | 12 | 11 | 5200 | 1 | | remainder and quotient of the double product n * m by k, rounded down |
 | `*/` | library | n m k -- q | 3 | -2 | 12 | 12 | 5300 | 1 | | that quotient |
 | `<#` | library | -- | 0 | 0 | 3 | 2 | 20 | 1 | | begins a number's text |
 | `HOLD` | library | c -- | 1 | -1 | 8 | 6 | 140 | 1 | | puts a character before the text |
