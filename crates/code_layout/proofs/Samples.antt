@@ -1,0 +1,82 @@
+-- Images of small programs, and what they print.
+use Rattle.std.proofs.Common.{◌≡◌, ℕ, false, true, List, [], ◌∷◌, refl, arith}
+use Rattle.word_table.specs.declared.word.Word.TheVariants.{Emit, Plus, Dup, DropTop, OneMinus, ZeroEqual, Index}
+use Rattle.forth_program.specs.Tree.{Nodes, Literal, Plain, Call, If, Until, While, Do, Leave, Exit, Empty, Then}
+use Rattle.forth_program.specs.Program.{SourceProgram}
+use Rattle.j1_simulator.specs.Run.{open_run}
+use Rattle.code_layout.specs.Layout.{laid_out}
+use Rattle.code_layout.specs.Built.{IsBuilt}
+
+-- a program with these definitions, of which the last is MAIN
+abbrev program : List Nodes → ℕ → ℕ → SourceProgram
+program bodies main tokens = record { names = []; bodies = bodies; main_body = main; tokens = []; data_start = 8192; first_space = []; source_tokens = tokens }
+
+-- : MAIN 66 EMIT ;
+line : SourceProgram
+line = program (Then (Literal 66) (Then (Plain Emit) Empty) ∷ []) 0 5
+
+line_cells : (laid_out line).cells ≡ 0x4008 ∷ 0x8000 ∷ 0xC004 ∷ 0x6023 ∷ 0 ∷ 0 ∷ 0 ∷ 0 ∷ 0x8042 ∷ 0xC000 ∷ 0x6023 ∷ 0x6103 ∷ 0x700C ∷ []
+unfolding line
+line_cells = refl
+
+-- : TWICE DUP + ; : MAIN 33 TWICE IF 65 ELSE 66 THEN EMIT ;
+two : SourceProgram
+two = program (Then (Plain Dup) (Then (Plain Plus) Empty) ∷ Then (Literal 33) (Then (Call 0) (Then (If (Then (Literal 65) Empty) (Then (Literal 66) Empty)) (Then (Plain Emit) Empty))) ∷ []) 1 16
+
+two_cells : (laid_out two).cells ≡ 0x400B ∷ 0x8000 ∷ 0xC004 ∷ 0x6023 ∷ 0 ∷ 0 ∷ 0 ∷ 0 ∷ 0x6081 ∷ 0x6203 ∷ 0x700C ∷ 0x8021 ∷ 0x4008 ∷ 0x2010 ∷ 0x8041 ∷ 0x0011 ∷ 0x8042 ∷ 0xC000 ∷ 0x6023 ∷ 0x6103 ∷ 0x700C ∷ []
+unfolding two
+two_cells = refl
+
+two_is_built : IsBuilt two
+unfolding two
+two_is_built = record { has_main = omega arith; items = refl; leaves_in_loops = refl; code_fits = omega arith; data_start = refl; tokens_counted = omega arith }
+
+two_prints : (open_run (laid_out two) [] 18).printed ≡ 65 ∷ []
+unfolding two
+two_prints = refl
+
+-- : MAIN 2 0 DO I 65 + EMIT LOOP ;
+loop : SourceProgram
+loop = program (Then (Literal 2) (Then (Literal 0) (Then (Do (Then (Plain Index) (Then (Literal 65) (Then (Plain Plus) (Then (Plain Emit) Empty)))) false) Empty)) ∷ []) 0 11
+
+loop_cells : (laid_out loop).cells ≡ 0x4008 ∷ 0x8000 ∷ 0xC004 ∷ 0x6023 ∷ 0 ∷ 0 ∷ 0 ∷ 0 ∷ 0x8002 ∷ 0x8000
+    ∷ 0x6180 ∷ 0x6081 ∷ 0x6147 ∷ 0x6600 ∷ 0x6203 ∷ 0x8001 ∷ 0x6203 ∷ 0x6147 ∷ 0x6B8D ∷ 0x6B81 ∷ 0x6181 ∷ 0x6147 ∷ 0x6203 ∷ 0x8041 ∷ 0x6203 ∷ 0xC000 ∷ 0x6023 ∷ 0x6103
+    ∷ 0x6B8D ∷ 0x8001 ∷ 0x6203 ∷ 0x6081 ∷ 0x6147 ∷ 0x2023 ∷ 0x0012 ∷ 0x6B8D ∷ 0x6103 ∷ 0x6B8D ∷ 0x6103 ∷ 0x700C ∷ []
+unfolding loop
+loop_cells = refl
+
+loop_prints : (open_run (laid_out loop) [] 60).printed ≡ 65 ∷ 66 ∷ []
+unfolding loop
+loop_prints = refl
+
+-- : MAIN 0 5 DO I EMIT -2 +LOOP ;
+down : SourceProgram
+down = program (Then (Literal 0) (Then (Literal 5) (Then (Do (Then (Plain Index) (Then (Plain Emit) (Then (Literal 65534) Empty))) true) Empty)) ∷ []) 0 11
+
+down_prints : (open_run (laid_out down) [] 120).printed ≡ 5 ∷ 3 ∷ 1 ∷ []
+unfolding down
+down_prints = refl
+
+-- : MAIN 3 BEGIN DUP WHILE 1- DUP EMIT REPEAT DROP 2 BEGIN 1- DUP EMIT DUP 0= UNTIL ;
+turns : SourceProgram
+turns =
+    program (Then (Literal 3) (Then (While (Then (Plain Dup) Empty) (Then (Plain OneMinus) (Then (Plain Dup) (Then (Plain Emit) Empty))))
+    (Then (Plain DropTop) (Then (Literal 2) (Then (Until (Then (Plain OneMinus) (Then (Plain Dup) (Then (Plain Emit) (Then (Plain Dup) (Then (Plain ZeroEqual) Empty)))))) Empty)))) ∷ []) 0 20
+
+turns_print : (open_run (laid_out turns) [] 120).printed ≡ 2 ∷ 1 ∷ 0 ∷ 1 ∷ 0 ∷ []
+unfolding turns
+turns_print = refl
+
+-- : MAIN 9 0 DO I EMIT I IF LEAVE THEN LOOP 7 EMIT EXIT 8 EMIT ;
+leaving : SourceProgram
+leaving =
+    program (Then (Literal 9) (Then (Literal 0) (Then (Do (Then (Plain Index) (Then (Plain Emit) (Then (Plain Index) (Then (If (Then Leave Empty) Empty) Empty)))) false)
+    (Then (Literal 7) (Then (Plain Emit) (Then Exit (Then (Literal 8) (Then (Plain Emit) Empty))))))) ∷ []) 0 20
+
+leaving_is_built : IsBuilt leaving
+unfolding leaving
+leaving_is_built = record { has_main = omega arith; items = refl; leaves_in_loops = refl; code_fits = omega arith; data_start = refl; tokens_counted = omega arith }
+
+leaving_prints : (open_run (laid_out leaving) [] 120).printed ≡ 0 ∷ 1 ∷ 7 ∷ []
+unfolding leaving
+leaving_prints = refl

@@ -1,0 +1,2 @@
+//! The image of a program, with no code yet.
+#![tactic(auto)]
