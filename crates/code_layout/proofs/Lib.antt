@@ -1,1 +1,10 @@
 pub mod Samples
+pub mod Work
+pub mod Machine
+pub mod Phrases
+pub mod Steps
+pub mod Crossing
+pub mod Returning
+pub mod LoopSteps
+pub mod FirstSteps
+pub mod Runs

@@ -1,2 +1,4 @@
 pub mod Layout
 pub mod Built
+pub mod Stacks
+pub mod Agreement

@@ -1,0 +1,76 @@
+-- Words one after the other: their code does what they do.
+use Rattle.std.proofs.Common.{◌≡◌, ℕ, zero, suc, ◌+◌, ◌-◌, ◌/◌, ◌<◌, ◌≤◌, true, false, List, [], ◌∷◌, ◌++◌, length, Option, Some, None, refl, sym, ap, ◌∙◌, subst, length-append, arith}
+use Rattle.word_table.specs.declared.word.Word.{Word}
+use Rattle.word_table.specs.Table.{entry_of, cells_of}
+use Rattle.forth_program.specs.State.{State, Outcome, Goes}
+use Rattle.forth_program.specs.Program.{SourceProgram}
+use Rattle.forth_program.specs.Step.{word_step}
+use Rattle.j1_simulator.specs.OpenMachine.{open_storage}
+use Rattle.j1_simulator.specs.Run.{run}
+use Rattle.word_laws.specs.Rings.{BeforeEach}
+use Rattle.word_laws.specs.Bounds.{StaysWithin}
+use Rattle.word_laws.specs.Cells.{AreCells, AreEntries, IsWorld}
+use Rattle.word_laws.specs.Standing.{return_places, standing_as, HasCome, StandIn}
+use Rattle.word_laws.specs.Words.{stands_plain, return_need, CellsApply, IsReady, lacks}
+use Rattle.code_layout.proofs.Machine.{Laws, Runs, stand_split, wider, runs_then}
+
+-- the cells of words
+abbrev pub phrase : List Word → List ℕ
+phrase [] = []
+phrase (word ∷ words) = cells_of word ++ phrase words
+
+module _ (p : SourceProgram) (high return_high : ℕ) (base : List (Option ℕ)) where
+  -- words lead from a state to another, with at most so many cells
+  abbrev pub Leads : List Word → State → State → Type 0
+  Leads [] s t = s ≡ t
+  Leads (word ∷ words) s t =
+      (m : State) × (word_step p word s.cells s.entries s ≡ Goes m) × (stands_plain word ≡ true) × CellsApply word s.cells s.world
+      × (length s.cells + (entry_of word).peak ≤ high) × (length (return_places s.entries base) + (entry_of word).back ≤ return_high) × Leads words m t
+
+  module _ (laws : Laws) (code : List ℕ) (size : length code ≡ 4096) where
+    pub word_ready : (word : Word) (s : State) (pc next : ℕ) → stands_plain word ≡ true → CellsApply word s.cells s.world → lacks (word_step p word s.cells s.entries s) ≡ false →
+        StandIn code pc (cells_of word) next → AreCells s.cells → AreEntries s.entries → s.world.data_start ≡ 0x2000 → IsReady word code pc next s
+    word_ready word s pc next plain applies sound stands cells entries starts =
+        let met = (laws.word_needs p word s.cells s.entries s plain).0 sound in
+        record { plain = plain; code_size = size ∙ ap (λ d. d / 2) (sym starts); in_code = stands; need = met.0; finds = met.1; cells = cells; entries = entries; applies = applies }
+
+    -- before each instruction of a word both stacks are within its peak and its back
+    pub word_bounded : (word : Word) (s : State) (pc next : ℕ) (data_above return_above : List (Option ℕ)) → IsReady word code pc next s → s.world.data_start ≡ 0x2000 →
+        length s.cells + (entry_of word).peak ≤ high → length (return_places s.entries base) + (entry_of word).back ≤ return_high →
+        BeforeEach (StaysWithin 0 high 0 return_high) 0x2000 (length (cells_of word)) (standing_as s code pc base data_above return_above)
+    word_bounded word s pc next data_above return_above ready starts peak back =
+        let low = length s.cells - (entry_of word).need in
+        let most = length s.cells + (entry_of word).peak in
+        let return_low = length (return_places s.entries base) - return_need word in
+        let return_most = length (return_places s.entries base) + (entry_of word).back in
+        wider laws low most return_low return_most high return_high (length (cells_of word)) (standing_as s code pc base data_above return_above) peak back
+        (subst (λ d. BeforeEach (StaysWithin (length s.cells - (entry_of word).need) (length s.cells + (entry_of word).peak) (length (return_places s.entries base) - return_need word) (length (return_places s.entries base) + (entry_of word).back)) d (length (cells_of word)) (standing_as s code pc base data_above return_above))
+        starts (laws.word_bounds word code pc next s base data_above return_above ready))
+
+    -- a word comes to what it does
+    pub word_comes : (word : Word) (s : State) (pc next : ℕ) (data_above return_above : List (Option ℕ)) (o : Outcome) → IsReady word code pc next s → s.world.data_start ≡ 0x2000 → word_step p word s.cells s.entries s ≡ o →
+        HasCome code next base (run open_storage 0x2000 (length (cells_of word)) (standing_as s code pc base data_above return_above)) o
+    word_comes word s pc next data_above return_above o ready starts e =
+        subst (λ d. HasCome code next base (run open_storage d (length (cells_of word)) (standing_as s code pc base data_above return_above)) o) starts
+        (subst (HasCome code next base (run open_storage s.world.data_start (length (cells_of word)) (standing_as s code pc base data_above return_above))) e (laws.words p word code pc next s base data_above return_above ready))
+
+    pub phrase_runs : (words : List Word) (s t : State) (pc next : ℕ) (data_above return_above : List (Option ℕ)) → Leads words s t → StandIn code pc (phrase words) next → AreCells s.cells → AreEntries s.entries → IsWorld s.world → s.world.data_start ≡ 0x2000 →
+        (above : List (Option ℕ)) × (above' : List (Option ℕ)) × Runs high return_high (length (phrase words)) (standing_as s code pc base data_above return_above) (standing_as t code next base above above')
+    phrase_runs [] s t pc next data_above return_above leads stands cells entries world starts = (
+      data_above,
+      return_above,
+      record { makes = ap (λ x. standing_as x code pc base data_above return_above) leads ∙ ap (λ q. standing_as t code q base data_above return_above) stands; bounds = tt },
+    )
+    phrase_runs (word ∷ words) s t pc next data_above return_above leads stands cells entries world starts =
+        let split = stand_split code (cells_of word) (phrase words) pc next stands in
+        let v = standing_as s code pc base data_above return_above in
+        let ready = word_ready word s pc split.0 leads.2 leads.3 (ap lacks leads.1) split.1 cells entries starts in
+        let come = word_comes word s pc split.0 data_above return_above (Goes leads.0) ready starts leads.1 in
+        let bounds = word_bounded word s pc split.0 data_above return_above ready starts leads.4 leads.5 in
+        let kept = laws.word_cells p word s leads.0 leads.2 cells entries world leads.1 in
+        let later = phrase_runs words leads.0 t split.0 next come.0 come.1 leads.6 split.2 kept.cells kept.entries kept.world (kept.data_start ∙ starts) in (
+          later.0,
+          later.1,
+          subst (λ n. Runs high return_high n v (standing_as t code next base later.0 later.1)) (sym (length-append (cells_of word) (phrase words)))
+              (runs_then laws high return_high (length (cells_of word)) (length (phrase words)) v (standing_as leads.0 code split.0 base come.0 come.1) (standing_as t code next base later.0 later.1) (record { makes = come.2; bounds = bounds }) later.2),
+        )

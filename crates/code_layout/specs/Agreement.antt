@@ -1,0 +1,67 @@
+-- What the image of a program does on the open machine, and what its source means.
+use Rattle.std.specs.Prelude.{◌≡◌, ◌≢◌, ℕ, ◌+◌, ◌*◌, ◌/◌, ◌<◌, ◌≤◌, false, List, ◌++◌, Option, Some, None}
+use Rattle.std.specs.List.{All}
+use Rattle.cell_math.specs.Bytes.{filled}
+use Rattle.j1_simulator.specs.Step.{Stop, Missing}
+use Rattle.j1_simulator.specs.Run.{begun, open_start, open_run, IsPrefixOf}
+use Rattle.forth_program.specs.State.{State, End, Outcome, Goes, Ends}
+use Rattle.forth_program.specs.Program.{SourceProgram}
+use Rattle.forth_program.specs.Step.{first}
+use Rattle.forth_program.specs.Run.{source_run, world_of, end_of}
+use Rattle.forth_program.specs.Price.{price}
+use Rattle.word_laws.specs.Rings.{OpenConfiguration, BeforeEach}
+use Rattle.word_laws.specs.Bounds.{StaysWithin}
+use Rattle.word_laws.specs.Standing.{machine_end}
+use Rattle.word_laws.specs.Words.{lacks}
+use Rattle.code_layout.specs.Layout.{laid_out}
+use Rattle.code_layout.specs.Built.{IsBuilt}
+use Rattle.code_layout.specs.Stacks.{DepthFits, StacksFit}
+
+abbrev pub AreBytes : List ℕ → Type 0
+AreBytes bytes = All (λ byte. byte < 256) bytes
+
+-- the cells of memory before data space
+abbrev pub code_of : SourceProgram → List ℕ
+code_of p = filled (p.data_start / 2) (laid_out p).cells
+
+-- within k word steps the source lacks no cells and finds its return entries, and DEPTH counts at most 31 cells
+pub record GoesWell (p : SourceProgram) (input : List ℕ) (k : ℕ) : Type 0 where
+  pub lacks_nothing : lacks (source_run p input k) ≡ false
+  pub depth_fits : (j : ℕ) (s : State) → j < k → source_run p input j ≡ Goes s → DepthFits (first s.work) s.cells
+
+-- the machine's end for where a source is
+abbrev pub stop_of : Outcome → Option Stop
+stop_of (Goes s) = None
+stop_of (Ends end world) = machine_end end
+
+-- the machine has the end, the data space, the input left and the prints of a source
+pub record Shows (code : List ℕ) (w : OpenConfiguration) (o : Outcome) : Type 0 where
+  pub stop_is : w.stop ≡ stop_of o
+  pub memory : w.core.memory ≡ code ++ (world_of o).space
+  pub input : w.input ≡ (world_of o).input
+  pub printed : w.printed ≡ (world_of o).printed
+
+-- the image does at least what k word steps do: after as many instructions as they may cost, or fewer, it shows the same; it
+-- needs no unknown cell up to there; and both stacks take no more cells than the steps do
+pub record DoesAsMuch (p : SourceProgram) (input : List ℕ) (k : ℕ) : Type 0 where
+  pub count : ℕ
+  pub within_price : count ≤ price p input k
+  pub shows : Shows (code_of p) (open_run (laid_out p) input count) (source_run p input k)
+  pub never_missing : (n : ℕ) → n ≤ count → (open_run (laid_out p) input n).stop ≢ Some Missing
+  pub stacks_before : (high return_high : ℕ) → StacksFit p input high return_high k → BeforeEach (StaysWithin 0 high 0 return_high) p.data_start count (begun (open_start (laid_out p)) input)
+  pub stacks_at_end : (high return_high : ℕ) (end : End) → StacksFit p input high return_high k → end_of (source_run p input k) ≡ Some end → StaysWithin 0 high 0 return_high (open_run (laid_out p) input count)
+
+abbrev pub ImagesDoAsMuch : Type 0
+ImagesDoAsMuch = (p : SourceProgram) (input : List ℕ) (k : ℕ) → IsBuilt p → AreBytes p.first_space → AreBytes input → GoesWell p input k → DoesAsMuch p input k
+
+-- so many word steps do at least what n instructions do
+abbrev pub word_steps : SourceProgram → ℕ → ℕ
+word_steps p n = (n + 1) * (p.source_tokens + 4)
+
+-- what n instructions print is a beginning of what those word steps print, and an end of theirs is the source's
+pub record DoesNoMore (p : SourceProgram) (input : List ℕ) (n : ℕ) : Type 0 where
+  pub prints : IsPrefixOf (open_run (laid_out p) input n).printed (world_of (source_run p input (word_steps p n))).printed
+  pub ends : (stop : Stop) → (open_run (laid_out p) input n).stop ≡ Some stop → (end : End) × (end_of (source_run p input (word_steps p n)) ≡ Some end) × (machine_end end ≡ Some stop)
+
+abbrev pub ImagesDoNoMore : Type 0
+ImagesDoNoMore = (p : SourceProgram) (input : List ℕ) (n : ℕ) → IsBuilt p → AreBytes p.first_space → AreBytes input → GoesWell p input (word_steps p n) → DoesNoMore p input n
