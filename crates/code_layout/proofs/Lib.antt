@@ -8,3 +8,4 @@ pub mod Returning
 pub mod LoopSteps
 pub mod FirstSteps
 pub mod Runs
+pub mod Laying

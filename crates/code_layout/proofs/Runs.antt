@@ -131,12 +131,6 @@ module _ (laws : Laws) (p : SourceProgram) (code : List ℕ) (size : length code
       next (step p s) refl (step_follows laws p code size all out pc s base data_above return_above m (depths 0 s (omega arith) (no_steps p s)))
       (λ total pc out s base data_above return_above m sound depths. reaches k total pc out s base data_above return_above m sound depths)
     where
-      high : ℕ
-      high = length s.cells + peak_of (first s.work)
-
-      return_high : ℕ
-      return_high = length (return_places s.entries base) + back_of (first s.work)
-
       fits : (high' return_high' : ℕ) → CellsFit p high' return_high' (suc k) s → (length s.cells + peak_of (first s.work) ≤ high') × (length (return_places s.entries base) + back_of (first s.work) ≤ return_high')
       fits high' return_high' fit = let f = fit 0 s (omega arith) (no_steps p s) in (f.0, (let g = f.1 in omega (arith, g, height_is out pc s base m)))
 
