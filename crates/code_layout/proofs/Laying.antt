@@ -29,7 +29,7 @@ decode_jump a h = grind (arith, nat_tests)
 decode_branch : (a : ℕ) → a < 8192 → decoded (branch_to a) ≡ Branch a
 decode_branch a h = grind (arith, nat_tests)
 
-decode_call : (a : ℕ) → a < 8192 → decoded (call_to a) ≡ CallTo a
+pub decode_call : (a : ℕ) → a < 8192 → decoded (call_to a) ≡ CallTo a
 decode_call a h = grind (arith, nat_tests)
 
 next_is : (pc : ℕ) → pc + 1 < 8192 → following pc ≡ pc + 1
@@ -70,10 +70,10 @@ module _ (code : List ℕ) where
       let same : pc + 1 + length cells ≡ pc + n = omega (arith, e) in
       ((h.0, h.1, subst (λ x. StandIn code x cells (pc + n)) (sym f) (subst (StandIn code (pc + 1) cells) same r.0)), subst (λ x. StandIn code x more next) same r.1)
 
-  holds : (pc cell : ℕ) (instruction : Instr) (cells : List ℕ) (next : ℕ) → StandIn code pc (cell ∷ cells) next → decoded cell ≡ instruction → Holds code pc instruction
+  pub holds : (pc cell : ℕ) (instruction : Instr) (cells : List ℕ) (next : ℕ) → StandIn code pc (cell ∷ cells) next → decoded cell ≡ instruction → Holds code pc instruction
   holds pc cell instruction cells next h e = (ap decoded h.0 ∙ e, h.1)
 
-  onward : (pc cell : ℕ) (cells : List ℕ) (next : ℕ) → pc + 1 < 8192 → StandIn code pc (cell ∷ cells) next → StandIn code (pc + 1) cells next
+  pub onward : (pc cell : ℕ) (cells : List ℕ) (next : ℕ) → pc + 1 < 8192 → StandIn code pc (cell ∷ cells) next → StandIn code (pc + 1) cells next
   onward pc cell cells next lt h = subst (λ x. StandIn code x cells next) (next_is pc lt) h.2
 
   module _ (p : SourceProgram) (low : (d : ℕ) → place_of p d < 8192) where
@@ -194,7 +194,7 @@ module _ (code : List ℕ) where
       placed Leave in_do out out_at at K fit inner lt h n k = (out_at, inner fit.2, holds at (jump_to out_at) (Jump out_at) [] (at + 1) h (decode_jump out_at lt))
       placed Exit in_do out out_at at K fit inner lt h n k = holds at return_cell (decoded 0x700C) [] (at + 1) h refl
 
-      all_placed : (nodes : Nodes) (in_do : Bool) (out : Option ℕ) (out_at at : ℕ) (K : ℕ → Type 0) → AllFit in_do nodes → (in_do ≡ true → out ≡ Some out_at) → out_at < 8192 → StandIn code at (nodes_cells (place_of p) out_at at nodes) (at + size nodes) → at + size nodes < 8192 → K (at + size nodes) → AllPlaced code p out at nodes K
+      pub all_placed : (nodes : Nodes) (in_do : Bool) (out : Option ℕ) (out_at at : ℕ) (K : ℕ → Type 0) → AllFit in_do nodes → (in_do ≡ true → out ≡ Some out_at) → out_at < 8192 → StandIn code at (nodes_cells (place_of p) out_at at nodes) (at + size nodes) → at + size nodes < 8192 → K (at + size nodes) → AllPlaced code p out at nodes K
       all_placed Empty in_do out out_at at K fit inner lt h n k = let e : at + 0 ≡ at = omega arith in subst K e k
       all_placed (Then node rest) in_do out out_at at K fit inner lt h n k =
           let fits = list_fits in_do node rest fit in

@@ -9,3 +9,4 @@ pub mod LoopSteps
 pub mod FirstSteps
 pub mod Runs
 pub mod Laying
+pub mod Image
