@@ -10,3 +10,4 @@ pub mod FirstSteps
 pub mod Runs
 pub mod Laying
 pub mod Image
+pub mod Agreeing

@@ -1,2 +1,11 @@
-//! The image of a program, with no code yet.
+//! The image of a program whose definitions have structures: its cells, and the law that the open machine does on it what the
+//! source means. There is no code yet.
+//!
+//! `Layout` in `specs/` gives the image, `Built` says which programs have one so far, and `Agreement` what the machine and the
+//! source have to do with each other. Each law is a function with an empty meaning of its own: it only calls the laws that it
+//! stands on.
 #![tactic(auto)]
+
+mod laws;
+
+pub use laws::{images_do_as_much, images_do_no_more};
