@@ -1,11 +1,10 @@
 -- The image does what the source means, and no more.
-use Rattle.std.proofs.Common.{◌≡◌, ◌≢◌, ℕ, zero, suc, ◌+◌, ◌*◌, ◌<◌, ◌≤◌, ⊎_elim, false, true, List, [], ◌∷◌, ◌++◌, length, Option, Some, None, refl, sym, ap, ◌∙◌, subst, arith, mul-le-mul_right, add-mul, mul-add}
+use Rattle.std.proofs.Common.{◌≡◌, ℕ, ◌+◌, ◌*◌, ◌<◌, ◌≤◌, ⊎_elim, false, true, List, [], ◌∷◌, Some, None, refl, sym, ap, ◌∙◌, subst, arith, mul-le-mul_right, add-mul, mul-add}
 use Rattle.std.proofs.lemmas.Bool.{cases_lt}
-use Rattle.j1_simulator.specs.Effect.{following}
 use Rattle.j1_simulator.specs.Step.{Stop, Missing}
 use Rattle.j1_simulator.specs.OpenMachine.{open_storage}
 use Rattle.j1_simulator.specs.Run.{run, begun, open_start, open_run, IsPrefixOf}
-use Rattle.forth_program.specs.State.{State, World, End, Halted, InputEnded, Outside, Underflow, Unbalanced, Outcome, Goes, Ends}
+use Rattle.forth_program.specs.State.{World, End, Halted, InputEnded, Outside, Underflow, Unbalanced, Outcome, Goes, Ends}
 use Rattle.forth_program.specs.Program.{SourceProgram, body_of}
 use Rattle.forth_program.specs.Run.{source_run, steps, first_state, world_of, end_of}
 use Rattle.forth_program.specs.Price.{price}
@@ -15,8 +14,7 @@ use Rattle.word_laws.specs.Standing.{standing_as, machine_end}
 use Rattle.word_laws.specs.Words.{lacks}
 use Rattle.code_layout.specs.Layout.{place_of, laid_out}
 use Rattle.code_layout.specs.Built.{IsBuilt}
-use Rattle.code_layout.specs.Stacks.{StacksFit}
-use Rattle.code_layout.specs.Agreement.{AreBytes, code_of, GoesWell, stop_of, Shows, DoesAsMuch, word_steps, DoesNoMore, ImagesDoAsMuch, ImagesDoNoMore}
+use Rattle.code_layout.specs.Agreement.{AreBytes, code_of, GoesWell, stop_of, Shows, DoesAsMuch, word_steps, DoesNoMore, ImagesAgree}
 use Rattle.code_layout.proofs.Work.{ahead, ahead_bound, loops_before, Meets}
 use Rattle.code_layout.proofs.Machine.{Laws, runs_one}
 use Rattle.code_layout.proofs.Runs.{Reaches, reaches}
@@ -39,8 +37,8 @@ stop_at (Outside address) world e = (_, refl)
 stop_at Underflow world e = absurd (let f : true ≡ false = e in cc)
 stop_at Unbalanced world e = absurd (let f : true ≡ false = e in cc)
 
-enough : (n c most : ℕ) → (n + 1) * (most + 4) ≤ most + c * (most + 1) → n ≤ c
-enough n c most h =
+enough : (n c most k : ℕ) → (n + 1) * (most + 4) ≤ k → k ≤ most + c * (most + 1) → n ≤ c
+enough n c most k h far =
     ⊎_elim (λ lt. absurd (let m : c * (most + 1) ≤ n * (most + 1) = mul-le-mul_right (most + 1) (less c n lt) in omega (arith, spread n most, m))) (λ le. le) (cases_lt c n)
   where
     less : (c n : ℕ) → c < n → c ≤ n
@@ -102,6 +100,11 @@ module _ (laws : Laws) (p : SourceProgram) (built : IsBuilt p) (space : AreBytes
         never_missing = λ n le e.
             let later = laws.grows.ends p.data_start n (1 + r.count) start Missing le e in
             never_missing (steps p k (first_state p input)) (sym r.shows.stop_is ∙ ap (λ v. v.stop) (sym (from_main r.count) ∙ later) ∙ e);
+        far_enough = λ n le e.
+            let far = r.progress e in
+            let low = ahead_bound (code_of p) p None (place_of p p.main_body) (first_state p input).work main_meets.stands in
+            let many : n ≤ r.count = enough n r.count p.source_tokens k le (omega (arith, far, low)) in
+            omega (arith, many);
         stacks_before = λ high return_high fit.
             subst (λ d. BeforeEach (StaysWithin 0 high 0 return_high) d (1 + r.count) start) (sym built.data_start)
             (laws.bounds_join 0 high 0 return_high 1 r.count 0x2000 start (called high return_high).0
@@ -137,19 +140,13 @@ module _ (laws : Laws) (p : SourceProgram) (built : IsBuilt p) (space : AreBytes
       )
 
   pub no_more : (n : ℕ) → GoesWell p input (word_steps p n) → DoesNoMore p input n
-  unfolding source_run
   no_more n well =
-      let k = word_steps p n in
-      let r = main_reaches (word_steps p n) well in
-      let m = as_much_from (word_steps p n) r in
-      let low = ahead_bound (code_of p) p None (place_of p p.main_body) (first_state p input).work main_meets.stands in
-      let shows : Shows (code_of p) (open_run (laid_out p) input (1 + r.count)) (source_run p input (word_steps p n)) = subst (λ u. Shows (code_of p) u (steps p (word_steps p n) (first_state p input))) (sym (from_main r.count)) r.shows in
-      let parts = no_more_by n (1 + r.count) (source_run p input (word_steps p n)) well.lacks_nothing shows
-          (λ e. let far = r.progress e in let le : n ≤ r.count = enough n r.count p.source_tokens (omega (arith, far, low)) in omega (arith, le)) in
+      let m = as_much (word_steps p n) well in
+      let parts = no_more_by n m.count (source_run p input (word_steps p n)) well.lacks_nothing m.shows (λ e. let lt : n < m.count = m.far_enough n (omega arith) e in omega (arith, lt)) in
       record { prints = parts.0; ends = parts.1 }
 
-pub images_as_much : Laws → ImagesDoAsMuch
-images_as_much laws p input k built space bytes well = as_much laws p built space input bytes k well
-
-pub images_no_more : Laws → ImagesDoNoMore
-images_no_more laws p input n built space bytes well = no_more laws p built space input bytes n well
+pub images_agree : Laws → ImagesAgree
+images_agree laws = record {
+  as_much = λ p input k built space bytes well. as_much laws p built space input bytes k well;
+  no_more = λ p input n built space bytes well. no_more laws p built space input bytes n well;
+}

@@ -1,11 +1,11 @@
 -- Each word step, by its first work.
-use Rattle.std.proofs.Common.{◌≡◌, ℕ, zero, suc, ◌+◌, ◌<◌, ◌≤◌, List, [], ◌∷◌, length, Option, Some, None, refl, sym, ap, ◌∙◌, subst, arith}
+use Rattle.std.proofs.Common.{◌≡◌, ℕ, ◌+◌, ◌≤◌, List, [], ◌∷◌, length, Option, refl, arith}
 use Rattle.j1_table.specs.declared.instr.Instr.TheVariants.{Jump}
 use Rattle.j1_simulator.specs.Effect.{following}
 use Rattle.forth_program.specs.Tree.{Nodes, Empty, Then}
-use Rattle.forth_program.specs.State.{Entry, Work, TrueEnd, UntilTest, WhileTest, Repeat, Turn, Frame, World, State}
+use Rattle.forth_program.specs.State.{Entry, Work, TrueEnd, UntilTest, WhileTest, Repeat, Frame, World, State}
 use Rattle.forth_program.specs.Program.{SourceProgram}
-use Rattle.forth_program.specs.Step.{First, BodyEnd, IsLiteral, IsWord, IsCall, IsChild, IsText, IsIf, IsTrueEnd, IsUntil, IsWhile, IsRepeat, IsDo, IsTurn, IsLeave, IsExit, before, closed_by, word_step, act, first, step}
+use Rattle.forth_program.specs.Step.{First, BodyEnd, IsLiteral, IsWord, IsCall, IsChild, IsText, IsIf, IsTrueEnd, IsUntil, IsWhile, IsRepeat, IsDo, IsTurn, IsLeave, IsExit, before, word_step, act, first, step}
 use Rattle.forth_program.specs.Price.{first_price, step_price}
 use Rattle.word_laws.specs.Cells.{AreCells, AreEntries, IsWorld}
 use Rattle.word_laws.specs.Control.{Holds}

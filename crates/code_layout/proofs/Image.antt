@@ -1,7 +1,7 @@
 -- The image of a program: its code, and where the machine and the source begin.
-use Rattle.std.proofs.Common.{◌≡◌, ℕ, zero, suc, ◌+◌, ◌-◌, ◌*◌, ◌/◌, ◌<◌, ◌≤◌, Bool, true, false, ◌&&◌, List, [], ◌∷◌, ◌++◌, length, replicate, slice_index, Option, Some, None, refl, sym, ap, ◌∙◌, subst, length-append, arith}
+use Rattle.std.proofs.Common.{◌≡◌, ℕ, zero, suc, ◌+◌, ◌-◌, ◌/◌, ◌<◌, ◌≤◌, true, false, List, [], ◌∷◌, ◌++◌, length, replicate, slice_index, None, refl, sym, ap, ◌∙◌, length-append, arith}
 use Rattle.std.specs.Prelude.{slice_index_or}
-use Rattle.std.specs.List.{All, list_all}
+use Rattle.std.specs.List.{list_all}
 use Rattle.std.proofs.lemmas.List.{length-replicate}
 use Rattle.std.proofs.lemmas.List.Elements.{All-head, All-tail}
 use Rattle.cell_math.specs.Bytes.{cells_of_bytes, filled}
@@ -10,15 +10,15 @@ use Rattle.j1_table.specs.Instruction.{decoded}
 use Rattle.j1_simulator.specs.OpenMachine.{blank}
 use Rattle.j1_simulator.specs.Run.{begun, open_start}
 use Rattle.forth_program.specs.Tree.{Nodes, Empty}
-use Rattle.forth_program.specs.Program.{SourceProgram, body_of}
+use Rattle.forth_program.specs.Program.{SourceProgram}
 use Rattle.forth_program.specs.Form.{everywhere, leaves_fit}
 use Rattle.forth_program.specs.Step.{before}
 use Rattle.forth_program.specs.Run.{first_world, first_state}
 use Rattle.word_laws.specs.Cells.{IsWorld}
 use Rattle.word_laws.specs.Control.{Holds}
-use Rattle.word_laws.specs.Standing.{standing_as, StandIn, CellsStand}
-use Rattle.code_layout.specs.Layout.{return_cell, call_to, size, nodes_cells, bodies_cells, begins_at, place_of, laid_out}
-use Rattle.code_layout.specs.Built.{is_laid_out, tokens, all_tokens, IsBuilt}
+use Rattle.word_laws.specs.Standing.{standing_as, StandIn}
+use Rattle.code_layout.specs.Layout.{return_cell, size, nodes_cells, bodies_cells, begins_at, place_of, laid_out}
+use Rattle.code_layout.specs.Built.{is_laid_out, all_tokens, IsBuilt}
 use Rattle.code_layout.specs.Agreement.{AreBytes, code_of}
 use Rattle.code_layout.proofs.Work.{Returns, Stands, stands_before}
 use Rattle.code_layout.proofs.Machine.{Laws}

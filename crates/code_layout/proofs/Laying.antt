@@ -1,23 +1,20 @@
 -- What is laid out stands where it was laid.
-use Rattle.std.proofs.Common.{◌≡◌, ℕ, zero, suc, ◌+◌, ◌-◌, ◌/◌, ◌%◌, ◌<◌, ◌≤◌, nat_lt, Bool, true, false, ◌&&◌, List, [], ◌∷◌, ◌++◌, length, replicate, slice_index, Option, Some, None, refl, sym, ap, ◌∙◌, subst, append_assoc, length-append, arith}
-use Rattle.std.specs.List.{list_all}
+use Rattle.std.proofs.Common.{◌≡◌, ℕ, ◌+◌, ◌<◌, Bool, true, false, ◌&&◌, List, [], ◌∷◌, ◌++◌, length, Option, Some, refl, sym, ap, ◌∙◌, subst, length-append, arith}
 use Rattle.std.proofs.lemmas.Bool.Decides.{nat_tests}
-use Rattle.std.proofs.lemmas.List.{length-replicate}
 use Rattle.j1_table.specs.declared.instr.Instr.{Instr}
 use Rattle.j1_table.specs.declared.instr.Instr.TheVariants.{Jump, Branch, Call as CallTo}
 use Rattle.j1_table.specs.Instruction.{decoded}
 use Rattle.j1_simulator.specs.Effect.{following}
 use Rattle.word_table.specs.Table.{cells_of}
 use Rattle.forth_program.specs.Tree.{Node, Nodes, Literal, Plain, Call, Child, Text, If, Until, While, Do, Leave, Exit, Empty, Then}
-use Rattle.forth_program.specs.Program.{SourceProgram, body_of}
+use Rattle.forth_program.specs.Program.{SourceProgram}
 use Rattle.forth_program.specs.Form.{everywhere, inside, leaves_fit, leave_fits}
-use Rattle.forth_program.specs.Step.{before}
 use Rattle.word_laws.specs.Control.{Holds}
 use Rattle.word_laws.specs.Numbers.{number_cells}
 use Rattle.word_laws.specs.Standing.{StandIn}
-use Rattle.code_layout.specs.Layout.{jump_to, branch_to, call_to, return_cell, do_cells, loop_cells, plus_loop_cells, out_cells, turn_cells, turn_size, else_size, node_size, size, else_place, while_place, out_place, else_cells, node_cells, nodes_cells, bodies_cells, begins_at, place_of}
-use Rattle.code_layout.specs.Built.{is_laid_out, node_tokens, tokens, all_tokens}
-use Rattle.code_layout.proofs.Work.{TurnStands, Returns, Placed, AllPlaced, Stands, stands_before}
+use Rattle.code_layout.specs.Layout.{jump_to, branch_to, call_to, return_cell, do_cells, loop_cells, plus_loop_cells, out_cells, turn_cells, turn_size, node_size, size, else_place, while_place, out_place, node_cells, nodes_cells, place_of}
+use Rattle.code_layout.specs.Built.{is_laid_out}
+use Rattle.code_layout.proofs.Work.{TurnStands, Placed, AllPlaced}
 
 pub both : (a b : Bool) → (a && b) ≡ true → (a ≡ true) × (b ≡ true)
 both true b e = (refl, e)
@@ -83,9 +80,12 @@ module _ (code : List ℕ) where
     turn_stands : (plus : Bool) (at body_at out_at : ℕ) (more : List ℕ) (next : ℕ) → StandIn code at (turn_cells plus body_at out_at ++ more) next → body_at < 8192 → out_at ≡ at + turn_size plus → out_at < 8192 → TurnStands code p plus at body_at out_at
     turn_stands false at body_at out_at more next h lt e lt' =
         let c = cut at 5 loop_cells (branch_to out_at ∷ jump_to body_at ∷ more) next refl (omega (arith, e)) h in
-        let j = onward (at + 5) (branch_to out_at) (jump_to body_at ∷ more) next (omega (arith, e)) c.1 in
-        (at + 5, c.0, holds (at + 5) (branch_to out_at) (Branch out_at) (jump_to body_at ∷ more) next c.1 (decode_branch out_at lt'),
-        subst (λ x. Holds code x (Jump body_at)) (sym (next_is (at + 5) (omega (arith, e)))) (holds (at + 5 + 1) (jump_to body_at) (Jump body_at) more next j (decode_jump body_at lt)))
+        let j = onward (at + 5) (branch_to out_at) (jump_to body_at ∷ more) next (omega (arith, e)) c.1 in (
+          at + 5,
+          c.0,
+          holds (at + 5) (branch_to out_at) (Branch out_at) (jump_to body_at ∷ more) next c.1 (decode_branch out_at lt'),
+          subst (λ x. Holds code x (Jump body_at)) (sym (next_is (at + 5) (omega (arith, e)))) (holds (at + 5 + 1) (jump_to body_at) (Jump body_at) more next j (decode_jump body_at lt)),
+        )
     turn_stands true at body_at out_at more next h lt e lt' =
         let c = cut at 17 plus_loop_cells (branch_to body_at ∷ more) next refl (omega (arith, e)) h in
         (at + 17, c.0, holds (at + 17) (branch_to body_at) (Branch body_at) more next c.1 (decode_branch body_at lt), (let f : following (at + 17) ≡ out_at = omega (arith, e) in f))

@@ -1,6 +1,6 @@
 -- One word step: DO, LOOP, +LOOP and LEAVE.
-use Rattle.std.proofs.Common.{◌≡◌, ◌≢◌, ℕ, zero, suc, ◌+◌, ◌-◌, ◌%◌, ◌<◌, ◌≤◌, ◌⊎◌, inl, inr, ⊎_elim, Bool, true, false, List, [], ◌∷◌, length, Option, Some, None, refl, sym, ap, ◌∙◌, subst, arith}
-use Rattle.std.specs.Prelude.{pos, int_lt, if◌then◌else◌, bit_and, bit_xor}
+use Rattle.std.proofs.Common.{◌≡◌, ◌≢◌, ℕ, zero, suc, ◌+◌, ◌-◌, ◌<◌, ◌≤◌, ⊎_elim, Bool, true, false, List, [], ◌∷◌, length, Option, Some, None, refl, sym, ◌∙◌, subst, arith}
+use Rattle.std.specs.Prelude.{pos, int_lt, if◌then◌else◌}
 use Rattle.std.proofs.Math.Nat.{mod-lt}
 use Rattle.cell_math.specs.Cell.{sum_of, difference_of, signed, flag}
 use Rattle.word_table.specs.declared.word.Word.TheVariants.{Swap, Dup, DropTop, Over, Plus, OnePlus, Invert, Xor, And, ZeroLess, ToR, RFrom}
@@ -8,7 +8,7 @@ use Rattle.j1_table.specs.declared.instr.Instr.TheVariants.{Jump, Branch}
 use Rattle.j1_simulator.specs.Effect.{following}
 use Rattle.j1_simulator.specs.OpenMachine.{first as top}
 use Rattle.forth_program.specs.Tree.{Nodes, Do}
-use Rattle.forth_program.specs.State.{Entry, Cell, Loop, Work, Todo, TrueEnd, UntilTest, WhileTest, Repeat, Turn, Frame, World, State, Outcome, Goes, Ends}
+use Rattle.forth_program.specs.State.{Entry, Cell, Loop, Work, Todo, TrueEnd, UntilTest, WhileTest, Repeat, Turn, Frame, World, State, Goes}
 use Rattle.forth_program.specs.Program.{SourceProgram}
 use Rattle.forth_program.specs.Price.{turn_price}
 use Rattle.code_layout.specs.Stacks.{peak_of}
@@ -19,9 +19,9 @@ use Rattle.word_laws.specs.Control.{Holds}
 use Rattle.word_laws.specs.Standing.{data_places, return_places, standing_as, StandIn}
 use Rattle.code_layout.specs.Layout.{out_cells, loop_cells, plus_loop_cells}
 use Rattle.code_layout.specs.Built.{tokens}
-use Rattle.code_layout.proofs.Work.{ahead, Placed, TurnStands, Stands, Loops, loops_before, stands_to, Frames, Meets}
-use Rattle.code_layout.proofs.Machine.{Laws, Runs, runs_more, runs_then, runs_one}
-use Rattle.code_layout.proofs.Phrases.{Leads, phrase_runs}
+use Rattle.code_layout.proofs.Work.{ahead, Placed, Stands, Loops, loops_before, stands_to, Frames}
+use Rattle.code_layout.proofs.Machine.{Laws, Runs, runs_then, runs_one}
+use Rattle.code_layout.proofs.Phrases.{phrase_runs}
 use Rattle.code_layout.proofs.Crossing.{signs, one_crosses, signs_cross}
 use Rattle.code_layout.proofs.Steps.{Comes, Follows, comes}
 
@@ -49,9 +49,39 @@ module _ (laws : Laws) (p : SourceProgram) (code : List ℕ) (size : length code
   enters : (pc body_at start limit : ℕ) (es : List Entry) (c : List ℕ) (data_above return_above : List (Option ℕ)) → StandIn code pc (0x6180 ∷ 0x6081 ∷ 0x6147 ∷ 0x6600 ∷ 0x6203 ∷ 0x8001 ∷ 0x6203 ∷ 0x6147 ∷ []) body_at → AreEntries es → AreCells (start ∷ limit ∷ c) → length c + 3 ≤ high → length (return_places es base) + 1 ≤ return_high →
       (above : List (Option ℕ)) × (above' : List (Option ℕ)) × Runs high return_high 8 (at pc es (start ∷ limit ∷ c) data_above return_above) (at body_at (Cell (sum_of (sum_of start (65535 - limit)) 1) ∷ Cell limit ∷ es) c above above')
   enters pc body_at start limit es c data_above return_above stands fe fc room back =
-      phrase_runs p high return_high base laws code size (Swap ∷ Dup ∷ ToR ∷ Invert ∷ Plus ∷ OnePlus ∷ ToR ∷ []) (with_cells [] es (start ∷ limit ∷ c)) (with_cells [] (Cell (sum_of (sum_of start (65535 - limit)) 1) ∷ Cell limit ∷ es) c) pc body_at data_above return_above
-      (_, refl, refl, tt, omega arith, omega arith, (_, refl, refl, tt, omega arith, omega arith, (_, refl, refl, tt, omega arith, omega arith, (_, refl, refl, tt, omega arith, omega arith,
-      (_, refl, refl, tt, omega arith, omega arith, (_, refl, refl, tt, omega arith, omega arith, (_, refl, refl, tt, omega arith, omega arith, refl))))))) stands fc fe fits starts
+      phrase_runs p high return_high base laws code size (Swap ∷ Dup ∷ ToR ∷ Invert ∷ Plus ∷ OnePlus ∷ ToR ∷ []) (with_cells [] es (start ∷ limit ∷ c)) (with_cells [] (Cell (sum_of (sum_of start (65535 - limit)) 1) ∷ Cell limit ∷ es) c) pc body_at data_above return_above (
+        _,
+        refl,
+        refl,
+        tt,
+        omega arith,
+        omega arith,
+        (
+          _,
+          refl,
+          refl,
+          tt,
+          omega arith,
+          omega arith,
+          (
+            _,
+            refl,
+            refl,
+            tt,
+            omega arith,
+            omega arith,
+            (
+              _,
+              refl,
+              refl,
+              tt,
+              omega arith,
+              omega arith,
+              (_, refl, refl, tt, omega arith, omega arith, (_, refl, refl, tt, omega arith, omega arith, (_, refl, refl, tt, omega arith, omega arith, refl))),
+            ),
+          ),
+        ),
+      ) stands fc fe fits starts
 
   -- LOOP: R> 1+ DUP >R
   adds_one : (pc test x l : ℕ) (es : List Entry) (c : List ℕ) (data_above return_above : List (Option ℕ)) → StandIn code pc loop_cells test → AreEntries (Cell x ∷ Cell l ∷ es) → AreCells c → length c + 2 ≤ high → length (return_places (Cell x ∷ Cell l ∷ es) base) ≤ return_high →
@@ -65,11 +95,103 @@ module _ (laws : Laws) (p : SourceProgram) (code : List ℕ) (size : length code
       (above : List (Option ℕ)) × (above' : List (Option ℕ)) × Runs high return_high 17 (at pc (Cell x ∷ Cell l ∷ es) (step ∷ c) data_above return_above) (at test (Cell (sum_of step x) ∷ Cell l ∷ es) (flag (int_lt (signed (signs x step)) (pos 0)) ∷ c) above above')
   adds_step pc test x l step es c data_above return_above stands fe fc room back =
       phrase_runs p high return_high base laws code size (RFrom ∷ Over ∷ Over ∷ Xor ∷ ToR ∷ Swap ∷ Over ∷ Plus ∷ Swap ∷ Over ∷ Xor ∷ RFrom ∷ And ∷ ZeroLess ∷ Swap ∷ ToR ∷ []) (with_cells [] (Cell x ∷ Cell l ∷ es) (step ∷ c))
-      (with_cells [] (Cell (sum_of step x) ∷ Cell l ∷ es) (flag (int_lt (signed (signs x step)) (pos 0)) ∷ c)) pc test data_above return_above
-      (_, refl, refl, tt, omega arith, omega arith, (_, refl, refl, tt, omega arith, omega arith, (_, refl, refl, tt, omega arith, omega arith, (_, refl, refl, tt, omega arith, omega arith,
-      (_, refl, refl, tt, omega arith, omega arith, (_, refl, refl, tt, omega arith, omega arith, (_, refl, refl, tt, omega arith, omega arith, (_, refl, refl, tt, omega arith, omega arith,
-      (_, refl, refl, tt, omega arith, omega arith, (_, refl, refl, tt, omega arith, omega arith, (_, refl, refl, tt, omega arith, omega arith, (_, refl, refl, tt, omega arith, omega arith,
-      (_, refl, refl, tt, omega arith, omega arith, (_, refl, refl, tt, omega arith, omega arith, (_, refl, refl, tt, omega arith, omega arith, (_, refl, refl, tt, omega arith, omega arith, refl)))))))))))))))) stands fc fe fits starts
+      (with_cells [] (Cell (sum_of step x) ∷ Cell l ∷ es) (flag (int_lt (signed (signs x step)) (pos 0)) ∷ c)) pc test data_above return_above (
+        _,
+        refl,
+        refl,
+        tt,
+        omega arith,
+        omega arith,
+        (
+          _,
+          refl,
+          refl,
+          tt,
+          omega arith,
+          omega arith,
+          (
+            _,
+            refl,
+            refl,
+            tt,
+            omega arith,
+            omega arith,
+            (
+              _,
+              refl,
+              refl,
+              tt,
+              omega arith,
+              omega arith,
+              (
+                _,
+                refl,
+                refl,
+                tt,
+                omega arith,
+                omega arith,
+                (
+                  _,
+                  refl,
+                  refl,
+                  tt,
+                  omega arith,
+                  omega arith,
+                  (
+                    _,
+                    refl,
+                    refl,
+                    tt,
+                    omega arith,
+                    omega arith,
+                    (
+                      _,
+                      refl,
+                      refl,
+                      tt,
+                      omega arith,
+                      omega arith,
+                      (
+                        _,
+                        refl,
+                        refl,
+                        tt,
+                        omega arith,
+                        omega arith,
+                        (
+                          _,
+                          refl,
+                          refl,
+                          tt,
+                          omega arith,
+                          omega arith,
+                          (
+                            _,
+                            refl,
+                            refl,
+                            tt,
+                            omega arith,
+                            omega arith,
+                            (
+                              _,
+                              refl,
+                              refl,
+                              tt,
+                              omega arith,
+                              omega arith,
+                              (_, refl, refl, tt, omega arith, omega arith, (_, refl, refl, tt, omega arith, omega arith, (_, refl, refl, tt, omega arith, omega arith, (_, refl, refl, tt, omega arith, omega arith, refl)))),
+                            ),
+                          ),
+                        ),
+                      ),
+                    ),
+                  ),
+                ),
+              ),
+            ),
+          ),
+        ),
+      ) stands fc fe fits starts
 
   -- a branch on a cell
   branches : (target test v : ℕ) (es : List Entry) (c : List ℕ) (data_above return_above : List (Option ℕ)) → v ≡ 0 → Holds code test (Branch target) → length c + 1 ≤ high → length (return_places es base) ≤ return_high →

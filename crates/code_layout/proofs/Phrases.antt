@@ -1,5 +1,5 @@
 -- Words one after the other: their code does what they do.
-use Rattle.std.proofs.Common.{◌≡◌, ℕ, zero, suc, ◌+◌, ◌-◌, ◌/◌, ◌<◌, ◌≤◌, true, false, List, [], ◌∷◌, ◌++◌, length, Option, Some, None, refl, sym, ap, ◌∙◌, subst, length-append, arith}
+use Rattle.std.proofs.Common.{◌≡◌, ℕ, ◌+◌, ◌-◌, ◌/◌, ◌≤◌, true, false, List, [], ◌∷◌, ◌++◌, length, Option, sym, ap, ◌∙◌, subst, length-append}
 use Rattle.word_table.specs.declared.word.Word.{Word}
 use Rattle.word_table.specs.Table.{entry_of, cells_of}
 use Rattle.forth_program.specs.State.{State, Outcome, Goes}

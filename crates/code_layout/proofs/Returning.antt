@@ -1,15 +1,15 @@
 -- The end of a body: a return to its caller, or the end of the run.
-use Rattle.std.proofs.Common.{◌≡◌, ℕ, zero, suc, ◌+◌, ◌*◌, ◌/◌, ◌%◌, ◌<◌, ◌≤◌, List, [], ◌∷◌, length, Option, Some, None, refl, sym, ap, ◌∙◌, subst, arith}
+use Rattle.std.proofs.Common.{◌≡◌, ℕ, suc, ◌+◌, ◌*◌, ◌/◌, ◌%◌, ◌≤◌, List, [], ◌∷◌, length, Option, Some, sym, ap, ◌∙◌, subst, arith}
 use Rattle.j1_simulator.specs.Effect.{following}
 use Rattle.j1_simulator.specs.OpenMachine.{open_storage}
 use Rattle.j1_simulator.specs.Run.{run}
-use Rattle.forth_program.specs.State.{Entry, Work, Frame, World, State, Halted, Outcome, Goes, Ends}
+use Rattle.forth_program.specs.State.{Entry, Work, Frame, World, State, Halted, Ends}
 use Rattle.forth_program.specs.Program.{SourceProgram}
 use Rattle.forth_program.specs.Step.{left}
 use Rattle.word_laws.specs.Rings.{OpenConfiguration, BeforeEach}
 use Rattle.word_laws.specs.Bounds.{StaysWithin}
 use Rattle.word_laws.specs.Cells.{AreCells, IsWorld}
-use Rattle.word_laws.specs.Standing.{return_places, standing_as, counted, HasCome}
+use Rattle.word_laws.specs.Standing.{return_places, counted, HasCome}
 use Rattle.code_layout.proofs.Work.{Returns, Waits, Frames}
 use Rattle.code_layout.proofs.Machine.{Laws, Runs, narrower, wider, runs_one}
 use Rattle.code_layout.proofs.Steps.{Comes, Halts, Follows, comes, AllStand}
@@ -32,10 +32,10 @@ module _ (laws : Laws) (p : SourceProgram) (code : List ℕ) (size : length code
       let leads = laws.returns 0x2000 2 pc code c [] data_above return_above world returns in
       let first : Runs high return_high 1 v v' = runs_one laws (length c) 1 high return_high v v' (omega arith) back leads in
       let halts =
-          subst (λ d. HasCome code 4 [] (run open_storage d 3 (counted code 1 c [] data_above (Some 2 ∷ return_above) world)) (Ends (Halted 0) world)
-          × BeforeEach (StaysWithin (length c) (length c + 2) 0 0) d 3 (counted code 1 c [] data_above (Some 2 ∷ return_above) world)
-          × StaysWithin (length c) (length c + 2) 0 0 (run open_storage d 3 (counted code 1 c [] data_above (Some 2 ∷ return_above) world))) starts
-          (laws.halts code 1 4 (at_end [] [] c) [] data_above (Some 2 ∷ return_above) (size ∙ ap (λ d. d / 2) (sym starts)) all.halt) in
+      subst (λ d. HasCome code 4 [] (run open_storage d 3 (counted code 1 c [] data_above (Some 2 ∷ return_above) world)) (Ends (Halted 0) world)
+      × BeforeEach (StaysWithin (length c) (length c + 2) 0 0) d 3 (counted code 1 c [] data_above (Some 2 ∷ return_above) world)
+      × StaysWithin (length c) (length c + 2) 0 0 (run open_storage d 3 (counted code 1 c [] data_above (Some 2 ∷ return_above) world))) starts
+      (laws.halts code 1 4 (at_end [] [] c) [] data_above (Some 2 ∷ return_above) (size ∙ ap (λ d. d / 2) (sym starts)) all.halt) in
       let joined : run open_storage 0x2000 4 v ≡ run open_storage 0x2000 3 v' = laws.runs_join 1 3 0x2000 v ∙ ap (run open_storage 0x2000 3) first.makes in
       let come = subst (λ u. HasCome code 4 [] u (Ends (Halted 0) world)) (sym joined) halts.0 in
       record {
@@ -59,7 +59,7 @@ module _ (laws : Laws) (p : SourceProgram) (code : List ℕ) (size : length code
       let after : State = record { work = f.work; entries = f.entries; callers = fs; cells = c; world = world } in
       let leads = laws.returns 0x2000 (2 * following waits.pc) pc code c (return_places f.entries below) data_above return_above world returns in
       let goes = runs_one laws (length c) (suc (length (return_places f.entries below))) high return_high v
-          (counted code (2 * following waits.pc / 2 % 0x2000) c (return_places f.entries below) data_above (Some (2 * following waits.pc) ∷ return_above) world) room back' leads in
+      (counted code (2 * following waits.pc / 2 % 0x2000) c (return_places f.entries below) data_above (Some (2 * following waits.pc) ∷ return_above) world) room back' leads in
       let goes' = subst (λ q. Runs high return_high 1 (There c (Some (2 * following waits.pc) ∷ return_places f.entries below)) (counted code q c (return_places f.entries below) data_above (Some (2 * following waits.pc) ∷ return_above) world)) (back_to waits.pc) goes in
       subst (λ b. Comes laws p code size (There c b) 1 now high return_high (record { work = f.work; entries = f.entries; callers = fs; cells = c; world = world })) (sym waits.returns)
       (comes laws p code size v 1 (following waits.pc) 1 now high return_high waits.out after below data_above (Some (2 * following waits.pc) ∷ return_above) (omega arith) (omega arith) goes'

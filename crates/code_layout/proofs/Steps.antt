@@ -1,5 +1,5 @@
 -- One word step: numbers, words, calls, decisions and ends of bodies.
-use Rattle.std.proofs.Common.{◌≡◌, ℕ, zero, suc, ◌+◌, ◌-◌, ◌*◌, ◌/◌, ◌%◌, ◌<◌, ◌≤◌, nat_le, IsTrue, true, false, List, [], ◌∷◌, ◌++◌, length, Option, Some, None, refl, sym, ap, ◌∙◌, subst, arith}
+use Rattle.std.proofs.Common.{◌≡◌, ℕ, zero, suc, ◌+◌, ◌-◌, ◌*◌, ◌/◌, ◌%◌, ◌<◌, ◌≤◌, nat_le, IsTrue, true, false, List, [], ◌∷◌, length, Option, Some, None, refl, sym, ap, ◌∙◌, subst, arith}
 use Rattle.std.specs.Prelude.{nat_lt, if◌then◌else◌}
 use Rattle.std.proofs.lemmas.Bool.Decides.{nat_tests}
 use Rattle.word_table.specs.declared.word.Word.{Word}
@@ -12,7 +12,7 @@ use Rattle.j1_simulator.specs.OpenMachine.{first as top, rest, open_storage}
 use Rattle.j1_simulator.specs.Run.{run}
 use Rattle.forth_program.specs.State.{Entry, Work, Frame, World, State, End, Halted, InputEnded, Outside, Underflow, Unbalanced, Outcome, Goes, Ends}
 use Rattle.forth_program.specs.Program.{SourceProgram, body_of}
-use Rattle.forth_program.specs.Step.{IsWord, before, word_step, called, left, on_flag}
+use Rattle.forth_program.specs.Step.{IsWord, before, word_step, called, on_flag}
 use Rattle.forth_program.specs.Price.{word_price}
 use Rattle.word_laws.specs.Rings.{OpenConfiguration, BeforeEach}
 use Rattle.word_laws.specs.Bounds.{StaysWithin}
@@ -23,8 +23,8 @@ use Rattle.word_laws.specs.Standing.{data_places, return_places, standing_as, ma
 use Rattle.word_laws.specs.Words.{stands_plain, return_need, CellsApply, lacks}
 use Rattle.code_layout.specs.Layout.{place_of}
 use Rattle.code_layout.specs.Stacks.{DepthFits}
-use Rattle.code_layout.proofs.Work.{ahead, Returns, Stands, Loops, loops_before, ahead_bound, Waits, Frames, Meets}
-use Rattle.code_layout.proofs.Machine.{Laws, Runs, narrower, wider, runs_more, runs_then, runs_one}
+use Rattle.code_layout.proofs.Work.{ahead, Stands, Loops, loops_before, ahead_bound, Frames, Meets}
+use Rattle.code_layout.proofs.Machine.{Laws, Runs, narrower, wider, runs_one}
 use Rattle.code_layout.proofs.Phrases.{word_ready, word_bounded, word_comes}
 
 step_progress : (c a n most : ℕ) → 1 ≤ c → a ≤ most → 1 + a ≤ n + c * (most + 1)
@@ -116,10 +116,10 @@ module _ (laws : Laws) (p : SourceProgram) (code : List ℕ) (size : length code
     number_follows value next w es c small stands s l fe fc room back =
         let stands' : NumberStands value code pc next (here w es c) = record { is_cell = small; code_size = size ∙ ap (λ d. d / 2) (sym starts); in_code = stands } in
         let come : HasCome code next base (run open_storage 0x2000 (length (number_cells value)) (There es c)) (Goes (here w es (value ∷ c))) =
-            subst (λ d. HasCome code next base (run open_storage d (length (number_cells value)) (There es c)) (Goes (here w es (value ∷ c)))) starts (laws.numbers p w value code pc next (here w es c) base data_above return_above stands') in
+        subst (λ d. HasCome code next base (run open_storage d (length (number_cells value)) (There es c)) (Goes (here w es (value ∷ c)))) starts (laws.numbers p w value code pc next (here w es c) base data_above return_above stands') in
         let bounds = wider laws (length c) (length c + 1) (length (return_places es base)) (length (return_places es base)) high return_high (length (number_cells value)) (There es c) room back
-            (subst (λ d. BeforeEach (StaysWithin (length c) (length c + 1) (length (return_places es base)) (length (return_places es base))) d (length (number_cells value)) (There es c)) starts
-            (laws.number_bounds value code pc next (here w es c) base data_above return_above stands')) in
+        (subst (λ d. BeforeEach (StaysWithin (length c) (length c + 1) (length (return_places es base)) (length (return_places es base))) d (length (number_cells value)) (There es c)) starts
+        (laws.number_bounds value code pc next (here w es c) base data_above return_above stands')) in
         comes (There es c) (length (number_cells value)) next 2 now high return_high out (here w es (value ∷ c)) base come.0 come.1 (number_some value) (number_short value) (record { makes = come.2; bounds = bounds })
         (record { stands = s; loops = l; frames = frames; cells = (small, fc); entries = fe; world = fits; starts = starts })
 

@@ -41,22 +41,26 @@ pub record Shows (code : List ℕ) (w : OpenConfiguration) (o : Outcome) : Type 
   pub input : w.input ≡ (world_of o).input
   pub printed : w.printed ≡ (world_of o).printed
 
--- the image does at least what k word steps do: after as many instructions as they may cost, or fewer, it shows the same; it
--- needs no unknown cell up to there; and both stacks take no more cells than the steps do
+-- so many word steps do at least what n instructions do
+abbrev pub word_steps : SourceProgram → ℕ → ℕ
+word_steps p n = (n + 1) * (p.source_tokens + 4)
+
+-- the image does at least what k word steps do
 pub record DoesAsMuch (p : SourceProgram) (input : List ℕ) (k : ℕ) : Type 0 where
+  -- in as many instructions as they may cost, or fewer, it comes to show the same
   pub count : ℕ
   pub within_price : count ≤ price p input k
   pub shows : Shows (code_of p) (open_run (laid_out p) input count) (source_run p input k)
+  -- up to there it needs no unknown cell
   pub never_missing : (n : ℕ) → n ≤ count → (open_run (laid_out p) input n).stop ≢ Some Missing
+  -- these are more than n instructions, if the steps are enough for n and have not ended
+  pub far_enough : (n : ℕ) → word_steps p n ≤ k → end_of (source_run p input k) ≡ None → n < count
+  -- before each of them, and at the end of the run, both stacks have no more cells than the steps take
   pub stacks_before : (high return_high : ℕ) → StacksFit p input high return_high k → BeforeEach (StaysWithin 0 high 0 return_high) p.data_start count (begun (open_start (laid_out p)) input)
   pub stacks_at_end : (high return_high : ℕ) (end : End) → StacksFit p input high return_high k → end_of (source_run p input k) ≡ Some end → StaysWithin 0 high 0 return_high (open_run (laid_out p) input count)
 
 abbrev pub ImagesDoAsMuch : Type 0
 ImagesDoAsMuch = (p : SourceProgram) (input : List ℕ) (k : ℕ) → IsBuilt p → AreBytes p.first_space → AreBytes input → GoesWell p input k → DoesAsMuch p input k
-
--- so many word steps do at least what n instructions do
-abbrev pub word_steps : SourceProgram → ℕ → ℕ
-word_steps p n = (n + 1) * (p.source_tokens + 4)
 
 -- what n instructions print is a beginning of what those word steps print, and an end of theirs is the source's
 pub record DoesNoMore (p : SourceProgram) (input : List ℕ) (n : ℕ) : Type 0 where
@@ -65,3 +69,8 @@ pub record DoesNoMore (p : SourceProgram) (input : List ℕ) (n : ℕ) : Type 0 
 
 abbrev pub ImagesDoNoMore : Type 0
 ImagesDoNoMore = (p : SourceProgram) (input : List ℕ) (n : ℕ) → IsBuilt p → AreBytes p.first_space → AreBytes input → GoesWell p input (word_steps p n) → DoesNoMore p input n
+
+-- both hold of every built program
+pub record ImagesAgree : Type 0 where
+  pub as_much : ImagesDoAsMuch
+  pub no_more : ImagesDoNoMore

@@ -1,6 +1,7 @@
 -- How many cells of both stacks the code of a word step takes.
 use Rattle.std.specs.Prelude.{◌≡◌, ℕ, ◌+◌, ◌<◌, ◌≤◌, true, false, List, [], ◌∷◌, length}
 use Rattle.word_table.specs.declared.word.Word.TheVariants.{Depth}
+use Rattle.word_table.specs.declared.word.Word.TheVariants as table
 use Rattle.word_table.specs.Table.{entry_of}
 use Rattle.forth_program.specs.State.{Entry, Cell, Loop, Frame, State, Goes}
 use Rattle.forth_program.specs.Program.{SourceProgram}
@@ -21,19 +22,19 @@ callers_height (frame ∷ callers) = 1 + entries_height frame.entries + callers_
 abbrev pub return_height : State → ℕ
 return_height s = entries_height s.entries + callers_height s.callers
 
--- the data cells that a step takes above those of its state: at the end of MAIN the two of the halt
+-- the data cells that a step takes above those of its state, as the word table says: the end of MAIN takes two for its halt
 abbrev pub peak_of : First → ℕ
 peak_of BodyEnd = 2
 peak_of IsExit = 2
-peak_of (IsLiteral value after) = 1
+peak_of (IsLiteral value after) = (entry_of table.Literal).peak
 peak_of (IsWord word after) = (entry_of word).peak
-peak_of (IsDo body plus after) = 1
-peak_of (IsTurn body false after) = 2
-peak_of (IsTurn body true after) = 4
-peak_of (IsLeave after) = 1
+peak_of (IsDo body plus after) = (entry_of table.Do).peak
+peak_of (IsTurn body false after) = (entry_of table.Loop).peak
+peak_of (IsTurn body true after) = (entry_of table.PlusLoop).peak
+peak_of (IsLeave after) = (entry_of table.Leave).peak
 peak_of first = 0
 
--- and the return cells
+-- and the return cells, before its last instruction: DO has put its limit there
 abbrev pub back_of : First → ℕ
 back_of (IsWord word after) = (entry_of word).back
 back_of (IsDo body plus after) = 1

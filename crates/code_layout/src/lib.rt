@@ -2,10 +2,10 @@
 //! source means. There is no code yet.
 //!
 //! `Layout` in `specs/` gives the image, `Built` says which programs have one so far, and `Agreement` what the machine and the
-//! source have to do with each other. Each law is a function with an empty meaning of its own: it only calls the laws that it
-//! stands on.
+//! source have to do with each other. The law `images_agree` is a function that only calls the
+//! laws that it stands on.
 #![tactic(auto)]
 
 mod laws;
 
-pub use laws::{images_do_as_much, images_do_no_more};
+pub use laws::images_agree;

@@ -1,8 +1,8 @@
-use Rattle.code_layout.proofs.Agreeing.{images_as_much}
-use Rattle.code_layout.proofs.laws.images_do_as_much.Goals as goal
+use Rattle.code_layout.proofs.Agreeing.{images_agree}
+use Rattle.code_layout.proofs.laws.images_agree.Goals as goal
 
 pub returns : goal.returns
-returns c = images_as_much (record {
+returns c = images_agree (record {
   words = c.words_do_their_meaning.ensures;
   word_bounds = c.words_keep_their_bounds.ensures.before_each;
   word_ends = c.words_keep_their_bounds.ensures.at_the_end;
