@@ -21,9 +21,9 @@ use Rattle.code_layout.specs.Layout.{return_cell, size, nodes_cells, bodies_cell
 use Rattle.code_layout.specs.Built.{is_laid_out, all_tokens, IsBuilt}
 use Rattle.code_layout.specs.Agreement.{AreBytes, code_of}
 use Rattle.code_layout.proofs.Work.{Returns, Stands, stands_before}
-use Rattle.code_layout.proofs.Machine.{Laws}
+use Rattle.code_layout.proofs.Machine.{Laws, both}
 use Rattle.code_layout.proofs.Steps.{AllStand}
-use Rattle.code_layout.proofs.Laying.{both, decode_call, size_is, cut, holds, onward, all_placed}
+use Rattle.code_layout.proofs.Laying.{decode_call, size_is, cut, holds, onward, all_placed}
 
 -- ---- cells of bytes
 

@@ -14,11 +14,8 @@ use Rattle.word_laws.specs.Numbers.{number_cells}
 use Rattle.word_laws.specs.Standing.{StandIn}
 use Rattle.code_layout.specs.Layout.{jump_to, branch_to, call_to, return_cell, do_cells, loop_cells, plus_loop_cells, out_cells, turn_cells, turn_size, node_size, size, else_place, while_place, out_place, node_cells, nodes_cells, place_of}
 use Rattle.code_layout.specs.Built.{is_laid_out}
+use Rattle.code_layout.proofs.Machine.{both}
 use Rattle.code_layout.proofs.Work.{TurnStands, Placed, AllPlaced}
-
-pub both : (a b : Bool) → (a && b) ≡ true → (a ≡ true) × (b ≡ true)
-both true b e = (refl, e)
-both false b e = absurd (cc)
 
 decode_jump : (a : ℕ) → a < 8192 → decoded (jump_to a) ≡ Jump a
 decode_jump a h = grind (arith, nat_tests)

@@ -17,7 +17,7 @@ use Rattle.word_laws.specs.Rings.{OpenConfiguration}
 use Rattle.word_laws.specs.Cells.{AreCells, AreEntries, IsWorld}
 use Rattle.word_laws.specs.Control.{Holds}
 use Rattle.word_laws.specs.Standing.{data_places, return_places, standing_as, StandIn}
-use Rattle.code_layout.specs.Layout.{out_cells, loop_cells, plus_loop_cells}
+use Rattle.code_layout.specs.Layout.{do_cells, out_cells, loop_cells, plus_loop_cells}
 use Rattle.code_layout.specs.Built.{tokens}
 use Rattle.code_layout.proofs.Work.{ahead, Placed, Stands, Loops, loops_before, stands_to, Frames}
 use Rattle.code_layout.proofs.Machine.{Laws, Runs, runs_then, runs_one}
@@ -42,156 +42,26 @@ module _ (laws : Laws) (p : SourceProgram) (code : List ℕ) (size : length code
   drops : (out_at next x l : ℕ) (es : List Entry) (c : List ℕ) (data_above return_above : List (Option ℕ)) → StandIn code out_at out_cells next → AreEntries (Cell x ∷ Cell l ∷ es) → AreCells c → length c + 1 ≤ high → length (return_places (Cell x ∷ Cell l ∷ es) base) ≤ return_high →
       (above : List (Option ℕ)) × (above' : List (Option ℕ)) × Runs high return_high 4 (at out_at (Cell x ∷ Cell l ∷ es) c data_above return_above) (at next es c above above')
   drops out_at next x l es c data_above return_above stands fe fc room back =
-      phrase_runs p high return_high base laws code size (RFrom ∷ DropTop ∷ RFrom ∷ DropTop ∷ []) (with_cells [] (Cell x ∷ Cell l ∷ es) c) (with_cells [] es c) out_at next data_above return_above
-      (_, refl, refl, tt, omega arith, omega arith, (_, refl, refl, tt, omega arith, omega arith, (_, refl, refl, tt, omega arith, omega arith, (_, refl, refl, tt, omega arith, omega arith, refl)))) stands fc fe fits starts
+      phrase_runs p high return_high base laws code size (RFrom ∷ DropTop ∷ RFrom ∷ DropTop ∷ []) (with_cells [] (Cell x ∷ Cell l ∷ es) c) (with_cells [] es c) out_at next data_above return_above refl refl (grind arith) stands fc fe fits starts
 
   -- DO: SWAP DUP >R INVERT + 1+ >R
-  enters : (pc body_at start limit : ℕ) (es : List Entry) (c : List ℕ) (data_above return_above : List (Option ℕ)) → StandIn code pc (0x6180 ∷ 0x6081 ∷ 0x6147 ∷ 0x6600 ∷ 0x6203 ∷ 0x8001 ∷ 0x6203 ∷ 0x6147 ∷ []) body_at → AreEntries es → AreCells (start ∷ limit ∷ c) → length c + 3 ≤ high → length (return_places es base) + 1 ≤ return_high →
+  enters : (pc body_at start limit : ℕ) (es : List Entry) (c : List ℕ) (data_above return_above : List (Option ℕ)) → StandIn code pc do_cells body_at → AreEntries es → AreCells (start ∷ limit ∷ c) → length c + 3 ≤ high → length (return_places es base) + 1 ≤ return_high →
       (above : List (Option ℕ)) × (above' : List (Option ℕ)) × Runs high return_high 8 (at pc es (start ∷ limit ∷ c) data_above return_above) (at body_at (Cell (sum_of (sum_of start (65535 - limit)) 1) ∷ Cell limit ∷ es) c above above')
   enters pc body_at start limit es c data_above return_above stands fe fc room back =
-      phrase_runs p high return_high base laws code size (Swap ∷ Dup ∷ ToR ∷ Invert ∷ Plus ∷ OnePlus ∷ ToR ∷ []) (with_cells [] es (start ∷ limit ∷ c)) (with_cells [] (Cell (sum_of (sum_of start (65535 - limit)) 1) ∷ Cell limit ∷ es) c) pc body_at data_above return_above (
-        _,
-        refl,
-        refl,
-        tt,
-        omega arith,
-        omega arith,
-        (
-          _,
-          refl,
-          refl,
-          tt,
-          omega arith,
-          omega arith,
-          (
-            _,
-            refl,
-            refl,
-            tt,
-            omega arith,
-            omega arith,
-            (
-              _,
-              refl,
-              refl,
-              tt,
-              omega arith,
-              omega arith,
-              (_, refl, refl, tt, omega arith, omega arith, (_, refl, refl, tt, omega arith, omega arith, (_, refl, refl, tt, omega arith, omega arith, refl))),
-            ),
-          ),
-        ),
-      ) stands fc fe fits starts
+      phrase_runs p high return_high base laws code size (Swap ∷ Dup ∷ ToR ∷ Invert ∷ Plus ∷ OnePlus ∷ ToR ∷ []) (with_cells [] es (start ∷ limit ∷ c)) (with_cells [] (Cell (sum_of (sum_of start (65535 - limit)) 1) ∷ Cell limit ∷ es) c) pc body_at data_above return_above refl refl (grind arith) stands fc fe fits starts
 
   -- LOOP: R> 1+ DUP >R
   adds_one : (pc test x l : ℕ) (es : List Entry) (c : List ℕ) (data_above return_above : List (Option ℕ)) → StandIn code pc loop_cells test → AreEntries (Cell x ∷ Cell l ∷ es) → AreCells c → length c + 2 ≤ high → length (return_places (Cell x ∷ Cell l ∷ es) base) ≤ return_high →
       (above : List (Option ℕ)) × (above' : List (Option ℕ)) × Runs high return_high 5 (at pc (Cell x ∷ Cell l ∷ es) c data_above return_above) (at test (Cell (sum_of x 1) ∷ Cell l ∷ es) (sum_of x 1 ∷ c) above above')
   adds_one pc test x l es c data_above return_above stands fe fc room back =
-      phrase_runs p high return_high base laws code size (RFrom ∷ OnePlus ∷ Dup ∷ ToR ∷ []) (with_cells [] (Cell x ∷ Cell l ∷ es) c) (with_cells [] (Cell (sum_of x 1) ∷ Cell l ∷ es) (sum_of x 1 ∷ c)) pc test data_above return_above
-      (_, refl, refl, tt, omega arith, omega arith, (_, refl, refl, tt, omega arith, omega arith, (_, refl, refl, tt, omega arith, omega arith, (_, refl, refl, tt, omega arith, omega arith, refl)))) stands fc fe fits starts
+      phrase_runs p high return_high base laws code size (RFrom ∷ OnePlus ∷ Dup ∷ ToR ∷ []) (with_cells [] (Cell x ∷ Cell l ∷ es) c) (with_cells [] (Cell (sum_of x 1) ∷ Cell l ∷ es) (sum_of x 1 ∷ c)) pc test data_above return_above refl refl (grind arith) stands fc fe fits starts
 
   -- +LOOP: R> OVER OVER XOR >R SWAP OVER + SWAP OVER XOR R> AND 0< SWAP >R
   adds_step : (pc test x l step : ℕ) (es : List Entry) (c : List ℕ) (data_above return_above : List (Option ℕ)) → StandIn code pc plus_loop_cells test → AreEntries (Cell x ∷ Cell l ∷ es) → AreCells (step ∷ c) → length c + 4 ≤ high → length (return_places (Cell x ∷ Cell l ∷ es) base) ≤ return_high →
       (above : List (Option ℕ)) × (above' : List (Option ℕ)) × Runs high return_high 17 (at pc (Cell x ∷ Cell l ∷ es) (step ∷ c) data_above return_above) (at test (Cell (sum_of step x) ∷ Cell l ∷ es) (flag (int_lt (signed (signs x step)) (pos 0)) ∷ c) above above')
   adds_step pc test x l step es c data_above return_above stands fe fc room back =
       phrase_runs p high return_high base laws code size (RFrom ∷ Over ∷ Over ∷ Xor ∷ ToR ∷ Swap ∷ Over ∷ Plus ∷ Swap ∷ Over ∷ Xor ∷ RFrom ∷ And ∷ ZeroLess ∷ Swap ∷ ToR ∷ []) (with_cells [] (Cell x ∷ Cell l ∷ es) (step ∷ c))
-      (with_cells [] (Cell (sum_of step x) ∷ Cell l ∷ es) (flag (int_lt (signed (signs x step)) (pos 0)) ∷ c)) pc test data_above return_above (
-        _,
-        refl,
-        refl,
-        tt,
-        omega arith,
-        omega arith,
-        (
-          _,
-          refl,
-          refl,
-          tt,
-          omega arith,
-          omega arith,
-          (
-            _,
-            refl,
-            refl,
-            tt,
-            omega arith,
-            omega arith,
-            (
-              _,
-              refl,
-              refl,
-              tt,
-              omega arith,
-              omega arith,
-              (
-                _,
-                refl,
-                refl,
-                tt,
-                omega arith,
-                omega arith,
-                (
-                  _,
-                  refl,
-                  refl,
-                  tt,
-                  omega arith,
-                  omega arith,
-                  (
-                    _,
-                    refl,
-                    refl,
-                    tt,
-                    omega arith,
-                    omega arith,
-                    (
-                      _,
-                      refl,
-                      refl,
-                      tt,
-                      omega arith,
-                      omega arith,
-                      (
-                        _,
-                        refl,
-                        refl,
-                        tt,
-                        omega arith,
-                        omega arith,
-                        (
-                          _,
-                          refl,
-                          refl,
-                          tt,
-                          omega arith,
-                          omega arith,
-                          (
-                            _,
-                            refl,
-                            refl,
-                            tt,
-                            omega arith,
-                            omega arith,
-                            (
-                              _,
-                              refl,
-                              refl,
-                              tt,
-                              omega arith,
-                              omega arith,
-                              (_, refl, refl, tt, omega arith, omega arith, (_, refl, refl, tt, omega arith, omega arith, (_, refl, refl, tt, omega arith, omega arith, (_, refl, refl, tt, omega arith, omega arith, refl)))),
-                            ),
-                          ),
-                        ),
-                      ),
-                    ),
-                  ),
-                ),
-              ),
-            ),
-          ),
-        ),
-      ) stands fc fe fits starts
+      (with_cells [] (Cell (sum_of step x) ∷ Cell l ∷ es) (flag (int_lt (signed (signs x step)) (pos 0)) ∷ c)) pc test data_above return_above refl refl (grind arith) stands fc fe fits starts
 
   -- a branch on a cell
   branches : (target test v : ℕ) (es : List Entry) (c : List ℕ) (data_above return_above : List (Option ℕ)) → v ≡ 0 → Holds code test (Branch target) → length c + 1 ≤ high → length (return_places es base) ≤ return_high →

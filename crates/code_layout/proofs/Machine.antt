@@ -1,5 +1,5 @@
 -- Runs of the open machine within bounds, and the laws of its words on which all stands.
-use Rattle.std.proofs.Common.{◌≡◌, ℕ, ◌+◌, ◌≤◌, List, [], ◌∷◌, ◌++◌, refl, sym, ap, ◌∙◌, subst, arith}
+use Rattle.std.proofs.Common.{◌≡◌, Bool, true, false, ◌&&◌, ℕ, ◌+◌, ◌≤◌, List, [], ◌∷◌, ◌++◌, refl, sym, ap, ◌∙◌, subst, arith}
 use Rattle.j1_simulator.specs.Effect.{following}
 use Rattle.j1_simulator.specs.OpenMachine.{open_storage}
 use Rattle.j1_simulator.specs.Run.{run}
@@ -36,6 +36,10 @@ pub record Laws : Type 0 where
 pub record Runs (high return_high n : ℕ) (from to : OpenConfiguration) : Type 0 where
   pub makes : run open_storage 0x2000 n from ≡ to
   pub bounds : BeforeEach (StaysWithin 0 high 0 return_high) 0x2000 n from
+
+pub both : (a b : Bool) → (a && b) ≡ true → (a ≡ true) × (b ≡ true)
+both true b e = (refl, e)
+both false b e = absurd (cc)
 
 -- code after code
 pub stand_split : (code cells more : List ℕ) (pc next : ℕ) → StandIn code pc (cells ++ more) next → (middle : ℕ) × StandIn code pc cells middle × StandIn code middle more next
