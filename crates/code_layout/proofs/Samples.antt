@@ -1,23 +1,57 @@
 -- Images of small programs, and what they print.
-use Rattle.std.proofs.Common.{◌≡◌, ℕ, false, true, List, [], ◌∷◌, refl, arith}
+use Rattle.std.proofs.Common.{◌≡◌, ℕ, ◌+◌, false, true, List, [], ◌∷◌, ◌++◌, length, refl, ap, ◌∙◌, arith}
 use Rattle.word_table.specs.declared.word.Word.TheVariants.{Emit, Plus, Dup, DropTop, OneMinus, ZeroEqual, Index}
-use Rattle.forth_program.specs.Tree.{Nodes, Literal, Plain, Call, If, Until, While, Do, Leave, Exit, Empty, Then}
+use Rattle.word_table.specs.Table.{cells_of}
+use Rattle.forth_program.specs.Tree.{Node, Nodes, Literal, Plain, Call, If, Until, While, Do, Leave, Exit, Empty, Then}
 use Rattle.forth_program.specs.Program.{SourceProgram}
 use Rattle.j1_simulator.specs.Run.{open_run}
-use Rattle.code_layout.specs.Layout.{laid_out}
+use Rattle.word_laws.specs.Numbers.{number_cells}
+use Rattle.code_layout.specs.Layout.{nodes_cells, bodies_cells, begins_at, header, laid_out}
 use Rattle.code_layout.specs.Built.{IsBuilt}
 
 -- a program with these definitions, of which the last is MAIN
 abbrev program : List Nodes → ℕ → ℕ → SourceProgram
 program bodies main tokens = record { names = []; bodies = bodies; main_body = main; tokens = []; data_start = 8192; first_space = []; source_tokens = tokens }
 
+-- ---- one definition without structures: the cells of its numbers and words, one after the other
+
+abbrev item_cells : Node → List ℕ
+item_cells (Literal value) = number_cells value
+item_cells (Plain word) = cells_of word
+item_cells node = []
+
+abbrev line_cells : Nodes → List ℕ
+line_cells Empty = []
+line_cells (Then node rest) = item_cells node ++ line_cells rest
+
+abbrev IsLine : Nodes → Type 0
+IsLine Empty = Unit {0}
+IsLine (Then (Literal value) rest) = IsLine rest
+IsLine (Then (Plain word) rest) = IsLine rest
+IsLine (Then node rest) = ⊥
+
+line_is_laid : (nodes : Nodes) (place : ℕ → ℕ) (out_at at : ℕ) → IsLine nodes → nodes_cells place out_at at nodes ≡ line_cells nodes
+line_is_laid Empty place out_at at line = refl
+line_is_laid (Then (Literal value) rest) place out_at at line = ap (λ cells. number_cells value ++ cells) (line_is_laid rest place out_at (at + length (number_cells value)) line)
+line_is_laid (Then (Plain word) rest) place out_at at line = ap (λ cells. cells_of word ++ cells) (line_is_laid rest place out_at (at + length (cells_of word)) line)
+line_is_laid (Then node rest) place out_at at line = absurd line
+
+one_line : (p : SourceProgram) (body : Nodes) → p.bodies ≡ body ∷ [] → p.main_body ≡ 0 → IsLine body →
+    (laid_out p).cells ≡ 0x4008 ∷ 0x8000 ∷ 0xC004 ∷ 0x6023 ∷ 0 ∷ 0 ∷ 0 ∷ 0 ∷ line_cells body ++ 0x700C ∷ []
+one_line p body bodies main line =
+    ap (λ b. header (begins_at 8 b p.main_body) ++ bodies_cells (begins_at 8 b) 8 b) bodies
+    ∙ ap (λ m. header (begins_at 8 (body ∷ []) m) ++ bodies_cells (begins_at 8 (body ∷ [])) 8 (body ∷ [])) main
+    ∙ ap (λ cells. header 8 ++ cells ++ 0x700C ∷ []) (line_is_laid body (begins_at 8 (body ∷ [])) 0 8 line)
+
+-- ---- some programs
+
 -- : MAIN 66 EMIT ;
 line : SourceProgram
 line = program (Then (Literal 66) (Then (Plain Emit) Empty) ∷ []) 0 5
 
-line_cells : (laid_out line).cells ≡ 0x4008 ∷ 0x8000 ∷ 0xC004 ∷ 0x6023 ∷ 0 ∷ 0 ∷ 0 ∷ 0 ∷ 0x8042 ∷ 0xC000 ∷ 0x6023 ∷ 0x6103 ∷ 0x700C ∷ []
+line_is : (laid_out line).cells ≡ 0x4008 ∷ 0x8000 ∷ 0xC004 ∷ 0x6023 ∷ 0 ∷ 0 ∷ 0 ∷ 0 ∷ 0x8042 ∷ 0xC000 ∷ 0x6023 ∷ 0x6103 ∷ 0x700C ∷ []
 unfolding line
-line_cells = refl
+line_is = refl
 
 -- : TWICE DUP + ; : MAIN 33 TWICE IF 65 ELSE 66 THEN EMIT ;
 two : SourceProgram

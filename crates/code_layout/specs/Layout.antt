@@ -4,6 +4,7 @@ use Rattle.word_table.specs.Table.{cells_of}
 use Rattle.forth_program.specs.Tree.{Node, Nodes, Literal, Plain, Call, If, Until, While, Do, Leave, Exit, Empty, Then}
 use Rattle.forth_program.specs.Program.{SourceProgram}
 use Rattle.j1_table.specs.Image.{Content}
+use Rattle.word_laws.specs.Control.{halt_cells}
 use Rattle.word_laws.specs.Numbers.{number_cells}
 
 -- ---- single cells
@@ -134,7 +135,7 @@ place_of p definition = begins_at 8 p.bodies definition
 
 -- cells 0 to 7: MAIN is called, and then 0 is stored at the halt port
 abbrev pub header : ℕ → List ℕ
-header main_at = call_to main_at ∷ 0x8000 ∷ 0xC004 ∷ 0x6023 ∷ 0 ∷ 0 ∷ 0 ∷ 0 ∷ []
+header main_at = call_to main_at ∷ halt_cells ++ 0 ∷ 0 ∷ 0 ∷ 0 ∷ []
 
 abbrev pub laid_out : SourceProgram → Content
 laid_out p = record { cells = header (place_of p p.main_body) ++ bodies_cells (place_of p) 8 p.bodies; bytes = p.first_space; data_start = p.data_start }
