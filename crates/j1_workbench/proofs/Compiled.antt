@@ -14,8 +14,9 @@ use Rattle.control_flow.specs.SourceText.{program_of_text}
 use Rattle.control_flow.specs.SourceLaw.{EachProgramIsOneLine}
 use Rattle.j1_workbench.specs.Certificate.{is_certified}
 use Rattle.j1_workbench.specs.Judgement.{judgement_of, judged, Compiles, IsAnswered}
-use Rattle.j1_workbench.specs.Layout.{laid_out}
-use Rattle.j1_workbench.specs.Headline.{AreBytes, Agrees}
+use Rattle.code_layout.specs.Layout.{laid_out}
+use Rattle.code_layout.specs.Agreement.{AreBytes}
+use Rattle.j1_workbench.specs.Headline.{Agrees}
 use Rattle.j1_workbench.specs.HeadlineLaw.{LinesAgree}
 use Rattle.j1_workbench.specs.Answers.{IsRefusal, RunLeaves, IsCompiled}
 use Rattle.j1_workbench.proofs.Driving.{front_of_nothing}

@@ -3,9 +3,7 @@ pub mod Compiled
 pub mod Digits
 pub mod Driving
 pub mod Files
-pub mod Straight
 pub mod Walking
 pub mod LineAgrees
-pub mod LineImage
-pub mod LineSteps
+pub mod LineSource
 pub mod Lines

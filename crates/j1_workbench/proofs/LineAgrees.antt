@@ -1,27 +1,52 @@
 -- A straight line agrees with its image.
-use Rattle.std.proofs.Common.{◌≡◌, ◌≢◌, ℕ, zero, suc, ◌+◌, ◌*◌, ◌/◌, ◌<◌, ◌≤◌, true, List, [], ◌++◌, length, drop, Some, refl, sym, ap, ◌∙◌, subst, arith}
+use Rattle.std.proofs.Common.{◌≡◌, ◌≢◌, ℕ, zero, suc, ◌+◌, ◌*◌, ◌/◌, ◌<◌, ◌≤◌, true, false, List, [], ◌++◌, length, drop, Some, None, refl, sym, ap, ◌∙◌, subst, arith}
 use Rattle.std.proofs.Math.Nat.{mul-le-mul}
 use Rattle.std.proofs.Math.Seq.{drop-append_seam}
 use Rattle.j1_table.specs.Image.{Content}
-use Rattle.j1_table.specs.Instruction.{decoded}
-use Rattle.j1_simulator.specs.Step.{Stop, Missing}
+use Rattle.j1_simulator.specs.Step.{Stop, By, Missing}
 use Rattle.j1_simulator.specs.OpenMachine.{open_storage}
 use Rattle.j1_simulator.specs.Run.{run, begun, open_start, open_run, round_run, advanced, IsPrefixOf}
+use Rattle.j1_simulator.specs.Laws.{OnlyGrows}
 use Rattle.forth_program.specs.State.{World, End, Halted, InputEnded, Outside, Underflow, Unbalanced, Outcome, Goes, Ends}
 use Rattle.forth_program.specs.Program.{SourceProgram, body_of}
-use Rattle.forth_program.specs.Run.{first_state, first_world, source_run, steps, world_of, end_of}
+use Rattle.forth_program.specs.Run.{first_world, first_state, source_run, world_of, end_of}
 use Rattle.forth_program.specs.Price.{price}
 use Rattle.control_flow.specs.SourceLaw.{IsLine, line_length}
-use Rattle.word_laws.specs.Rings.{OpenConfiguration, BeforeEach, Agrees as StandAlike}
-use Rattle.word_laws.specs.Bounds.{StaysWithin}
-use Rattle.word_laws.specs.Cells.{IsWorld}
-use Rattle.word_laws.specs.Standing.{standing_as, machine_end}
+use Rattle.word_laws.specs.Rings.{OpenConfiguration, BeforeEach, RunsDoTheSame, Agrees as StandAlike}
+use Rattle.word_laws.specs.Bounds.{StaysWithin, BoundsJoin, BoundsFitRings, EndsStay}
+use Rattle.word_laws.specs.Standing.{machine_end, EndedIn}
+use Rattle.word_laws.specs.Words.{lacks, NeedsAreExact, WordsChangeDepths}
+use Rattle.code_layout.specs.Layout.{laid_out}
+use Rattle.code_layout.specs.Built.{IsBuilt}
+use Rattle.code_layout.specs.Agreement.{AreBytes, code_of, GoesWell, Shows, word_steps, ImagesDoAsMuch, DoesAsMuch}
+use Rattle.code_layout.specs.Stacks.{StacksFit}
 use Rattle.j1_workbench.specs.Certificate.{most_cells, is_certified}
-use Rattle.j1_workbench.specs.Layout.{code_of, laid_out}
-use Rattle.j1_workbench.specs.Headline.{word_steps, Agrees}
+use Rattle.j1_workbench.specs.Headline.{DepthStaysWithin, Agrees}
 use Rattle.j1_workbench.proofs.Walking.{small_most}
-use Rattle.j1_workbench.proofs.LineSteps.{Laws, HasEnded, EndsAs, Reaches, home, follows}
-use Rattle.j1_workbench.proofs.LineImage.{code, begins, code_size, image_stands}
+use Rattle.j1_workbench.proofs.LineSource.{HasEnded, GoesThrough, goes_through}
+
+-- the laws on which this stands
+pub record Laws : Type 0 where
+  pub images : ImagesDoAsMuch
+  pub needs : NeedsAreExact
+  pub depths : WordsChangeDepths
+  pub bounds_join : BoundsJoin
+  pub bounds_fit : BoundsFitRings
+  pub ends_stay : EndsStay
+  pub rings : RunsDoTheSame
+  pub grows : OnlyGrows open_storage
+
+-- a machine has ended as a source has, within the limits
+pub record EndsAs (code : List ℕ) (end : End) (world : World) (v : OpenConfiguration) : Type 0 where
+  pub stop : Stop
+  pub stop_is : machine_end end ≡ Some stop
+  pub ended : EndedIn v code stop world
+  pub within : StaysWithin 0 33 0 32 v
+
+-- the machine has printed what the source has, and has ended where it has
+abbrev pub Reaches : List ℕ → Outcome → OpenConfiguration → Type 0
+Reaches code (Goes s) v = v.printed ≡ s.world.printed
+Reaches code (Ends end world) v = EndsAs code end world v
 
 -- fewer instructions are within the bounds too
 fewer : (P : OpenConfiguration → Type 0) (data_start n m : ℕ) (v : OpenConfiguration) → n ≤ m → BeforeEach P data_start m v → BeforeEach P data_start n v
@@ -159,38 +184,54 @@ module _ (laws : Laws) (p : SourceProgram) (image : Content) (input code : List 
 
 -- ---- the line of a program
 
-module _ (laws : Laws) (p : SourceProgram) (input : List ℕ) (starts : p.data_start ≡ 8192) (room : length (code_of (body_of p p.main_body)) ≤ 4087)
-    (line : IsLine (body_of p p.main_body)) (certified : is_certified p ≡ true) (world : IsWorld (first_world p input)) (tokens : line_length (body_of p p.main_body) + 3 ≤ p.source_tokens) where
-  abbrev memory : List ℕ
-  memory = code p starts
+ends_as : (code : List ℕ) (end : End) (world : World) (stop : Stop) (v : OpenConfiguration) → machine_end end ≡ Some stop → Shows code v (Ends end world) → StaysWithin 0 33 0 32 v → EndsAs code end world v
+ends_as code end world stop v is shows within =
+    record { stop = stop; stop_is = is; ended = record { stop_is = shows.stop_is ∙ is; memory = shows.memory; input = shows.input; printed = shows.printed }; within = within }
 
-  line_reached : (k : ℕ) → Reached p (laid_out p) input memory (line_length (body_of p p.main_body)) k
-  unfolding source_run price
+-- an end that lacks nothing is one of the machine
+reaches : (code : List ℕ) (o : Outcome) (v : OpenConfiguration) → lacks o ≡ false → Shows code v o → ((end : End) → end_of o ≡ Some end → StaysWithin 0 33 0 32 v) → Reaches code o v
+reaches code (Goes s) v sound shows within = shows.printed
+reaches code (Ends (Halted status) world) v sound shows within = ends_as code (Halted status) world _ v refl shows (within (Halted status) refl)
+reaches code (Ends InputEnded world) v sound shows within = ends_as code InputEnded world _ v refl shows (within InputEnded refl)
+reaches code (Ends (Outside address) world) v sound shows within = ends_as code (Outside address) world _ v refl shows (within (Outside address) refl)
+reaches code (Ends Underflow world) v sound shows within = cc
+reaches code (Ends Unbalanced world) v sound shows within = cc
+
+module _ (laws : Laws) (p : SourceProgram) (input : List ℕ) (built : IsBuilt p) (space : AreBytes p.first_space) (bytes : AreBytes input)
+    (line : IsLine (body_of p p.main_body)) (certified : is_certified p ≡ true) (tokens : line_length (body_of p p.main_body) + 3 ≤ p.source_tokens) where
+  abbrev left : ℕ
+  left = line_length (body_of p p.main_body)
+
+  through : (k : ℕ) → GoesThrough p left k (first_state p input)
+  through k = goes_through laws.needs laws.depths p (most_cells p) (small_most p (most_cells p) refl) (body_of p p.main_body) k [] (first_world p input) line certified
+
+  well : (k : ℕ) → GoesWell p input k
+  unfolding source_run
+  well k = let t = through k in record { lacks_nothing = t.lacks_nothing; depth_fits = λ j s early e. (t.fits j s early e).depth }
+
+  stacks : (k : ℕ) → StacksFit p input 33 32 k
+  unfolding source_run
+  stacks k = λ j s early e. let f = (through k).fits j s early e in (f.data_cells, f.return_cells)
+
+  over : (k : ℕ) → left < k → HasEnded (source_run p input k)
+  unfolding source_run
+  over k = (through k).over
+
+  line_reached : (k : ℕ) → Reached p (laid_out p) input (code_of p) left k
   line_reached k =
-      let ds = p.data_start in
-      let s = first_state p input in
-      let v = standing_as s memory 0 [] [] [] in
-      let v' = standing_as s memory 8 home [] [] in
-      let stands = image_stands p starts room laws.cells_stand in
-      let call = laws.calls ds 8 0 memory [] [] [] [] s.world (ap decoded stands.0, stands.1) in
-      let f = follows laws p ds memory (code_size p starts room) starts (stands.2.0, stands.2.1, (stands.2.2.0, stands.2.2.1, (stands.2.2.2.0, stands.2.2.2.1, refl)))
-      (body_of p p.main_body) (most_cells p) k 8 8 _ [] s.world [] [] (small_most p (most_cells p) refl) line certified stands.2.2.2.2.2.2.2.2 tt world refl in
-      let joined : run open_storage ds (1 + f.count) v ≡ run open_storage ds f.count v' = laws.runs_join 1 f.count ds v ∙ ap (run open_storage ds f.count) call.makes in
-      let first : BeforeEach (StaysWithin 0 33 0 32) ds 1 v = laws.bounds_widen 0 0 0 0 0 33 0 32 1 ds v (omega arith) (omega arith) (omega arith) (omega arith) call.bounds in
-      let paid = f.cheap in
-      let begin = begins p starts input in
+      let m = laws.images p input k built space bytes (well k) in
       record {
-        count = 1 + f.count;
-        cheap = omega (arith, paid);
-        bounds = subst (BeforeEach (StaysWithin 0 33 0 32) ds (1 + f.count)) (sym begin) (laws.bounds_join 0 33 0 32 1 f.count ds v first (subst (BeforeEach (StaysWithin 0 33 0 32) ds f.count) (sym call.makes) f.bounds));
-        reaches = subst (λ u. Reaches memory (steps p k s) (run open_storage ds (1 + f.count) u)) (sym begin) (subst (Reaches memory (steps p k s)) (sym joined) f.reaches);
-        over = f.over;
+        count = m.count;
+        cheap = m.within_price;
+        bounds = m.stacks_before 33 32 (stacks k);
+        reaches = reaches (code_of p) (source_run p input k) (open_run (laid_out p) input m.count) (well k).lacks_nothing m.shows (λ end e. m.stacks_at_end 33 32 end (stacks k) e);
+        over = over k;
       }
 
-  enough_steps : (n : ℕ) → line_length (body_of p p.main_body) < word_steps p n
+  enough_steps : (n : ℕ) → left < word_steps p n
   enough_steps n =
       let h : 1 * (p.source_tokens + 4) ≤ (n + 1) * (p.source_tokens + 4) = mul-le-mul {m₁ = p.source_tokens + 4} {m₂ = p.source_tokens + 4} (omega arith) (omega arith) in
       omega (arith, h)
 
-  pub line_agrees : Agrees p (laid_out p) input
-  line_agrees = agreed laws p (laid_out p) input memory (line_length (body_of p p.main_body)) line_reached (code_size p starts room) enough_steps
+  pub line_agrees : length (code_of p) ≡ p.data_start / 2 → Agrees p (laid_out p) input
+  line_agrees size = agreed laws p (laid_out p) input (code_of p) left line_reached size enough_steps

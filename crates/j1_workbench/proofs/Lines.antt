@@ -1,59 +1,119 @@
 -- What a program of one straight line has, by what its text has.
-use Rattle.std.proofs.Common.{◌≡◌, ◌+◌, ◌≤◌, nat_le, false, IsTrue, length, refl, sym, ap, subst, length-append, arith}
-use Rattle.std.proofs.lemmas.Bool.Decides.{nat_tests}
+use Rattle.std.proofs.Common.{◌≡◌, ℕ, ◌+◌, ◌-◌, ◌/◌, ◌≤◌, ◌<◌, nat_le, nat_lt, Bool, true, false, ◌&&◌, IsTrue, List, [], ◌∷◌, ◌++◌, length, replicate, get_or, refl, sym, ap, ◌∙◌, subst, length-append, arith}
 use Rattle.std.specs.Prelude.{if◌then◌else◌}
+use Rattle.std.specs.List.{list_all}
+use Rattle.std.proofs.lemmas.Bool.Decides.{nat_tests}
+use Rattle.std.proofs.lemmas.List.{length-replicate}
+use Rattle.std.proofs.lemmas.List.Elements.{All-cons}
 use Rattle.word_table.specs.declared.word.Word.{Word}
 use Rattle.word_table.specs.declared.word.Word.TheVariants.{Dup}
 use Rattle.word_table.specs.Table.{entry_of, cells_of}
+use Rattle.cell_math.specs.Bytes.{filled}
 use Rattle.forth_program.specs.Tree.{Nodes, Literal, Plain, Empty, Then}
 use Rattle.forth_program.specs.Program.{SourceProgram, body_of}
+use Rattle.forth_program.specs.Form.{everywhere, leaves_fit}
+use Rattle.control_flow.specs.SourceText.{fixed_space, program_with}
 use Rattle.control_flow.specs.SourceLaw.{IsLine, line_weight, line_length, IsOneLine}
-use Rattle.word_laws.specs.Words.{is_inline}
-use Rattle.j1_workbench.specs.Layout.{is_straight, code_of}
+use Rattle.word_laws.specs.Numbers.{number_cells}
+use Rattle.word_laws.specs.Words.{stands_plain}
+use Rattle.code_layout.specs.Layout.{nodes_cells, place_of, laid_out}
+use Rattle.code_layout.specs.Built.{is_laid_out, tokens, IsBuilt}
+use Rattle.code_layout.specs.Agreement.{AreBytes, code_of}
 use Rattle.j1_workbench.specs.HeadlineLaw.{LinesAgree}
-use Rattle.j1_workbench.proofs.LineSteps.{Laws, number_short}
-use Rattle.j1_workbench.proofs.LineImage.{first_world_is}
-use Rattle.j1_workbench.proofs.LineAgrees.{line_agrees}
+use Rattle.j1_workbench.proofs.Walking.{both}
+use Rattle.j1_workbench.proofs.LineSource.{inline_plain}
+use Rattle.j1_workbench.proofs.LineAgrees.{Laws, line_agrees}
 
-straight : (nodes : Nodes) → IsLine nodes → IsTrue (is_straight nodes)
-straight Empty line = refl
-straight (Then (Literal value) rest) line = straight rest line.1
-straight (Then (Plain word) rest) line = subst (λ kind. IsTrue (if is_inline kind then is_straight rest else false)) (sym line.0) (straight rest line.1)
-straight (Then node rest) line = absurd line
+-- ---- what is laid out
+
+all_three : (a b c : Bool) → a ≡ true → b ≡ true → c ≡ true → a && b && c ≡ true
+all_three true true c e f g = g
+all_three true false c e f g = cc
+all_three false b c e f g = cc
+
+laid_items : (nodes : Nodes) → IsLine nodes → everywhere (is_laid_out 1) nodes ≡ true
+laid_items Empty line = refl
+laid_items (Then (Literal value) rest) line =
+    let cell : nat_lt value 0x10000 ≡ true = let h = line.0 in grind (arith, nat_tests) in
+    all_three (nat_lt value 0x10000) true (everywhere (is_laid_out 1) rest) cell refl (laid_items rest line.1)
+laid_items (Then (Plain word) rest) line = all_three (stands_plain word) true (everywhere (is_laid_out 1) rest) (inline_plain word line.0) refl (laid_items rest line.1)
+laid_items (Then node rest) line = absurd line
+
+no_leaves : (nodes : Nodes) → IsLine nodes → leaves_fit false nodes ≡ true
+no_leaves Empty line = refl
+no_leaves (Then (Literal value) rest) line = no_leaves rest line.1
+no_leaves (Then (Plain word) rest) line = no_leaves rest line.1
+no_leaves (Then node rest) line = absurd line
+
+line_tokens : (nodes : Nodes) → IsLine nodes → tokens nodes ≡ line_length nodes
+line_tokens Empty line = refl
+line_tokens (Then (Literal value) rest) line = let h = line_tokens rest line.1 in omega (arith, h)
+line_tokens (Then (Plain word) rest) line = let h = line_tokens rest line.1 in omega (arith, h)
+line_tokens (Then node rest) line = absurd line
+
+-- ---- its size
+
+number_short : (value : ℕ) → length (number_cells value) ≤ 2
+number_short value = elim (nat_lt value 0x8000) as (λ b. length (if b then (0x8000 + value) ∷ [] else (0x8000 + (0xffff - value)) ∷ 0x6600 ∷ []) ≤ 2) [ true ↦ omega arith | false ↦ omega arith ]
 
 -- a word's cells are no more than its weight
 cells_light : (word : Word) → IsTrue (nat_le (length (cells_of word)) (entry_of word).weight)
 cells_light Dup = refl
 cells_light word = refl
 
-code_light : (nodes : Nodes) → IsLine nodes → length (code_of nodes) ≤ line_weight nodes
-code_light Empty line = omega arith
-code_light (Then (Literal value) rest) line =
+code_light : (place : ℕ → ℕ) (out_at at : ℕ) (nodes : Nodes) → IsLine nodes → length (nodes_cells place out_at at nodes) ≤ line_weight nodes
+code_light place out_at at Empty line = omega arith
+code_light place out_at at (Then (Literal value) rest) line =
     let short = number_short value in
-    let h = code_light rest line.1 in
+    let h = code_light place out_at (at + length (number_cells value)) rest line.1 in
     simp length-append (omega (arith, short, h))
-code_light (Then (Plain word) rest) line =
+code_light place out_at at (Then (Plain word) rest) line =
     let light = cells_light word in
     let few : length (cells_of word) ≤ (entry_of word).weight = grind (arith, nat_tests) in
-    let h = code_light rest line.1 in
+    let h = code_light place out_at (at + length (cells_of word)) rest line.1 in
     simp length-append (omega (arith, few, h))
-code_light (Then node rest) line = absurd line
+code_light place out_at at (Then node rest) line = absurd line
 
--- so its program can be laid out
-pub lines_straight : (p : SourceProgram) → IsOneLine p → IsTrue (is_straight (body_of p p.main_body))
-lines_straight p one = subst (λ p. IsTrue (is_straight (body_of p p.main_body))) (sym one.program_is) (straight one.nodes one.line)
+alone : (test : Nodes → Bool) (nodes : Nodes) → test nodes ≡ true → list_all test (nodes ∷ []) ≡ true
+alone test nodes h = grind (arith, h)
 
-pub lines_short : (p : SourceProgram) → IsOneLine p → length (code_of (body_of p p.main_body)) ≤ 4087
-lines_short p one =
-    subst (λ p. length (code_of (body_of p p.main_body)) ≤ 4087) (sym one.program_is) (let few = code_light one.nodes one.line in let light = one.light in omega (arith, few, light))
+built_with : (name : List ℕ) (nodes : Nodes) (count : ℕ) → IsLine nodes → line_weight nodes + 1 ≤ 2400 → line_length nodes + 3 ≤ count → IsBuilt (program_with (name ∷ []) (nodes ∷ []) 0 count)
+built_with name nodes count line light enough =
+    let p = program_with (name ∷ []) (nodes ∷ []) 0 count in
+    let short = code_light (place_of p) 0 8 nodes line in
+    let same = line_tokens nodes line in
+    record {
+      has_main = omega arith;
+      items = alone (everywhere (is_laid_out 1)) nodes (laid_items nodes line);
+      leaves_in_loops = alone (leaves_fit false) nodes (no_leaves nodes line);
+      code_fits = simp length-append (omega (arith, short, light));
+      data_start = refl;
+      tokens_counted = omega (arith, same, enough);
+    }
 
-pub lines_start : (p : SourceProgram) → IsOneLine p → p.data_start ≡ 8192
-lines_start p one = ap (λ p. p.data_start) one.program_is
+pub lines_are_built : (p : SourceProgram) → IsOneLine p → IsBuilt p
+lines_are_built p one = subst IsBuilt (sym one.program_is) (built_with one.name one.nodes p.source_tokens one.line one.light one.tokens)
+
+-- ---- the law
+
+filled_length : (n : ℕ) (cells : List ℕ) → length cells ≤ n → length (filled n cells) ≡ n
+filled_length n cells few = simp (length-append, length-replicate) (omega arith)
+
+code_size : (p : SourceProgram) → IsBuilt p → length (code_of p) ≡ p.data_start / 2
+code_size p built = filled_length (p.data_start / 2) (laid_out p).cells (let few = built.code_fits in let start = built.data_start in omega (arith, few, start))
+
+are_bytes : (bytes : List ℕ) → list_all (λ byte. nat_lt byte 256) bytes ≡ true → AreBytes bytes
+are_bytes [] small = λ k d inside. absurd (omega arith)
+are_bytes (byte ∷ bytes) small =
+    let tests = both (nat_lt byte 256) (list_all (λ byte. nat_lt byte 256) bytes) small in
+    let low : byte < 256 = let h = tests.0 in grind (arith, nat_tests) in
+    All-cons (λ byte. byte < 256) byte bytes low (are_bytes bytes tests.1)
 
 pub agree : Laws → LinesAgree
 agree laws p input one certified bytes =
-    let starts = lines_start p one in
-    line_agrees laws p input starts (lines_short p one)
+    let built = lines_are_built p one in
+    line_agrees laws p input built
+    (subst AreBytes (sym (ap (λ p. p.first_space) one.program_is)) (are_bytes fixed_space refl)) bytes
     (subst (λ p. IsLine (body_of p p.main_body)) (sym one.program_is) one.line) certified
-    (first_world_is p input starts (ap (λ p. p.first_space) one.program_is) bytes)
     (subst (λ p. line_length (body_of p p.main_body) + 3 ≤ p.source_tokens) (sym one.program_is) one.tokens)
+    (code_size p built)

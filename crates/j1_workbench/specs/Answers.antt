@@ -18,8 +18,9 @@ use Rattle.j1_workbench.specs.declared.status.Status.TheVariants.{Done, BadWords
 use Rattle.j1_workbench.specs.Words.{Request, Run}
 use Rattle.j1_workbench.specs.Statuses.{status_of}
 use Rattle.j1_workbench.specs.Judgement.{judged, IsAnswered}
-use Rattle.j1_workbench.specs.Layout.{laid_out}
-use Rattle.j1_workbench.specs.Headline.{AreBytes, Agrees}
+use Rattle.code_layout.specs.Layout.{laid_out}
+use Rattle.code_layout.specs.Agreement.{AreBytes}
+use Rattle.j1_workbench.specs.Headline.{Agrees}
 use Rattle.j1_workbench.specs.Notes.{note_of}
 use Rattle.forth_program.specs.Program.{SourceProgram}
 

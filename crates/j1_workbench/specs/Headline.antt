@@ -1,6 +1,5 @@
 -- What the run of an image on the chip has to do with the meaning of its source.
-use Rattle.std.specs.Prelude.{◌≡◌, ℕ, ◌+◌, ◌*◌, ◌/◌, ◌<◌, ◌≤◌, ℤ, pos, List, drop, Some}
-use Rattle.std.specs.List.{All}
+use Rattle.std.specs.Prelude.{◌≡◌, ℕ, ◌/◌, ◌≤◌, ℤ, pos, List, drop, Some}
 use Rattle.j1_table.specs.Image.{Content}
 use Rattle.j1_simulator.specs.Step.{Stop}
 use Rattle.j1_simulator.specs.Run.{round_run, IsPrefixOf}
@@ -9,13 +8,7 @@ use Rattle.forth_program.specs.Program.{SourceProgram}
 use Rattle.forth_program.specs.Run.{source_run, world_of, end_of}
 use Rattle.forth_program.specs.Price.{price}
 use Rattle.word_laws.specs.Standing.{machine_end}
-
-abbrev pub AreBytes : List ℕ → Type 0
-AreBytes input = All (λ byte. byte < 256) input
-
--- so many word steps of the source do at least what n instructions of its image do
-abbrev pub word_steps : SourceProgram → ℕ → ℕ
-word_steps p n = (n + 1) * (p.source_tokens + 4)
+use Rattle.code_layout.specs.Agreement.{word_steps}
 
 -- a counter stands between 0 and a limit
 abbrev pub DepthStaysWithin : ℕ → ℤ → Type 0

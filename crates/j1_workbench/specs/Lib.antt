@@ -3,7 +3,6 @@ pub mod Words
 pub mod Commands
 pub mod Certificate
 pub mod Judgement
-pub mod Layout
 pub mod Notes
 pub mod Statuses
 pub mod Headline

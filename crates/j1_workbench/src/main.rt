@@ -4,7 +4,6 @@
 mod answering;
 mod certificate;
 mod laws;
-mod layout;
 mod notes;
 mod numbers;
 mod running;

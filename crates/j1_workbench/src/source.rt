@@ -1,8 +1,7 @@
 // Reading a source text.
-ghost use Rattle.std.specs.Prelude.{◌≡◌, ◌≤◌, ◌⊎◌, length, MatchResult, IfOk, IfErr, IsTrue};
-ghost use Rattle.forth_program.specs.Program.{body_of};
+ghost use Rattle.std.specs.Prelude.{◌≡◌, ◌⊎◌, MatchResult, IfOk, IfErr};
+ghost use Rattle.code_layout.specs.Built.{IsBuilt};
 ghost use Rattle.j1_workbench.specs.Answers.{IsTextRefusal};
-ghost use Rattle.j1_workbench.specs.Layout.{is_straight, code_of};
 ghost use Rattle.j1_workbench.specs.Judgement.{judged, Compiles, IsAnswered};
 
 use crate::certificate::is_certified;
@@ -19,11 +18,9 @@ pub const MOST_SOURCE: usize = 65_536;
 pub fn judge(alloc: Global, text: &[u8]) -> Result<Program, Status>
     ensures judgement { MatchResult result (λ program. judged text.now ≡ Compiles program) (λ status. (status ≡ Status.OutOfMemory) ⊎ (judged text.now ≡ IsAnswered status)) }
     ensures refused { IfErr result (λ status. IsTextRefusal status) }
-    ensures straight { IfOk result (λ program. IsTrue (is_straight (body_of program program.main_body))) }
-    ensures room { IfOk result (λ program. length (code_of (body_of program program.main_body)) ≤ 4087) }
-    ensures data_start { IfOk result (λ program. program.data_start ≡ 8192) }
+    ensures built { IfOk result (λ program. IsBuilt program) }
 {
-    // each program is a line of numbers and inline words, and light enough for the code
+    // each program is a line of numbers and inline words, which is laid out
     programs_are_lines();
     if text.len() > MOST_SOURCE {
         return Err(Status::TooLarge);

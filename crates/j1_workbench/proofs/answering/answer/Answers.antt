@@ -2,7 +2,7 @@ use Rattle.std.proofs.Common.{◌≡◌, Some, map, string_bytes, rules, subst, 
 use Rattle.std.specs.Prelude.{IfSome}
 use Rattle.j1_workbench.specs.Words.{request_of, Run, steps_allowed}
 use Rattle.j1_workbench.specs.Answers.{RunLeaves, text_in}
-use Rattle.j1_workbench.specs.Layout.{laid_out}
+use Rattle.code_layout.specs.Layout.{laid_out}
 use Rattle.j1_workbench.proofs.Files.{asked}
 use Rattle.j1_workbench.proofs.answering.answer.Goals as goal
 

@@ -1,6 +1,6 @@
 use Rattle.std.proofs.Common.{ap, sym, ◌∙◌, inl, inr}
 use Rattle.j1_workbench.specs.Judgement.{judged}
-use Rattle.j1_workbench.specs.Layout.{laid_out}
+use Rattle.code_layout.specs.Layout.{laid_out}
 use Rattle.j1_workbench.proofs.Driving.{failed_leaves}
 use Rattle.j1_workbench.proofs.Files.{read_tells, holds_text_of, lacking_gives_none}
 use Rattle.j1_workbench.proofs.answering.run_source.Goals as goal
