@@ -12,7 +12,7 @@ use Rattle.forth_program.specs.State.{Entry, Cell, Loop, Work, Todo, TrueEnd, Un
 use Rattle.forth_program.specs.Program.{SourceProgram}
 use Rattle.forth_program.specs.Price.{turn_price}
 use Rattle.code_layout.specs.Stacks.{peak_of}
-use Rattle.forth_program.specs.Step.{IsTurn, before, crosses, loop_begins, turned, turn, after_loop, leave}
+use Rattle.forth_program.specs.Step.{IsTurn, before, loop_begins, turned, turn, after_loop, leave}
 use Rattle.word_laws.specs.Rings.{OpenConfiguration}
 use Rattle.word_laws.specs.Cells.{AreCells, AreEntries, IsWorld}
 use Rattle.word_laws.specs.Control.{Holds}
@@ -30,6 +30,9 @@ begun start limit h k = omega arith
 
 next_difference : (index limit step : ℕ) → index < 65536 → limit < 65536 → step < 65536 → sum_of (difference_of index limit) step ≡ difference_of (sum_of index step) limit
 next_difference index limit step h k l = omega arith
+
+sum_turned : (x y : ℕ) → sum_of x y ≡ sum_of y x
+sum_turned x y = omega arith
 
 module _ (laws : Laws) (p : SourceProgram) (code : List ℕ) (size : length code ≡ 4096) (high return_high : ℕ) (fs : List Frame) (world : World) (fits : IsWorld world) (starts : world.data_start ≡ 0x2000) (base : List (Option ℕ)) where
   abbrev with_cells : List Work → List Entry → List ℕ → State
@@ -137,22 +140,41 @@ module _ (laws : Laws) (p : SourceProgram) (code : List ℕ) (size : length code
         (record { stands = end.stands; loops = end.loops; frames = frames; cells = fc; entries = fe.2; world = fits; starts = starts })
 
     module _ (out : Option ℕ) (body : Nodes) (w u : List Work) (limit index : ℕ) (es : List Entry) (c : List ℕ) (fe : AreEntries (Loop limit index ∷ es)) (fc : AreCells c) (back : length (return_places (Loop limit index ∷ es) base) ≤ return_high) where
+      abbrev difference : ℕ
+      difference = difference_of index limit
+
+      -- the loop as two cells
+      abbrev two_cells : ℕ → List Entry
+      two_cells x = Cell x ∷ Cell limit ∷ es
+
+      -- where the end of a turn stands, with these data cells
+      abbrev There : List ℕ → OpenConfiguration
+      There c' = at pc (Loop limit index ∷ es) c' data_above return_above
+
+      -- the end of a turn is followed, by whether the loop is over
+      abbrev Turned : List ℕ → ℕ → Bool → ℕ → Bool → Type 0
+      Turned c' price plus step crossed =
+          Follows laws p code size (There c') price now high return_high (if crossed then Goes (with_cells w es c) else Goes (with_cells (before body (Turn body plus ∷ w)) (Loop limit (sum_of index step) ∷ es) c))
+
+      small_entries : AreEntries (two_cells difference)
+      small_entries = (difference_small limit index, (fe.0, fe.2))
+
       -- the loop is over
-      over : (plus : Bool) (price count out_at x : ℕ) (c' : List ℕ) (above above' : List (Option ℕ)) → 1 ≤ count → count + 4 ≤ price → x < 65536 → length c + 1 ≤ high → LoopEnd out_at w →
-          Runs high return_high count (at pc (Loop limit index ∷ es) c' data_above return_above) (at out_at (Cell x ∷ Cell limit ∷ es) c above above') → Comes laws p code size (at pc (Loop limit index ∷ es) c' data_above return_above) price now high return_high (with_cells w es c)
-      over plus price count out_at x c' above above' some cheap small room end runs =
+      over : (price count out_at x : ℕ) (c' : List ℕ) (above above' : List (Option ℕ)) → 1 ≤ count → count + 4 ≤ price → x < 65536 → length c + 1 ≤ high → LoopEnd out_at w →
+          Runs high return_high count (There c') (at out_at (two_cells x) c above above') → Comes laws p code size (There c') price now high return_high (with_cells w es c)
+      over price count out_at x c' above above' some cheap small room end runs =
           let d = drops out_at end.next x limit es c above above' end.drop_stands (small, (fe.0, fe.2)) fc room back in
-          comes laws p code size (at pc (Loop limit index ∷ es) c' data_above return_above) (count + 4) end.next price now high return_high end.outer (with_cells w es c) base d.0 d.1 (omega arith) cheap
-          (runs_then laws high return_high count 4 (at pc (Loop limit index ∷ es) c' data_above return_above) (at out_at (Cell x ∷ Cell limit ∷ es) c above above') (at end.next es c d.0 d.1) runs d.2)
+          comes laws p code size (There c') (count + 4) end.next price now high return_high end.outer (with_cells w es c) base d.0 d.1 (omega arith) cheap
+          (runs_then laws high return_high count 4 (There c') (at out_at (two_cells x) c above above') (at end.next es c d.0 d.1) runs d.2)
           (record { stands = end.stands; loops = end.loops; frames = frames; cells = fc; entries = fe.2; world = fits; starts = starts })
 
       -- the body is done again
       again : (plus : Bool) (price count x step : ℕ) (c' : List ℕ) (above above' : List (Option ℕ)) → 1 ≤ count → count ≤ price → x ≡ difference_of (sum_of index step) limit → (h : Stands code p out pc (Turn body plus ∷ w)) → Loops code p out (Turn body plus ∷ w) →
-          Runs high return_high count (at pc (Loop limit index ∷ es) c' data_above return_above) (at h.1 (Cell x ∷ Cell limit ∷ es) c above above') →
-          Comes laws p code size (at pc (Loop limit index ∷ es) c' data_above return_above) price now high return_high (with_cells (before body (Turn body plus ∷ w)) (Loop limit (sum_of index step) ∷ es) c)
+          Runs high return_high count (There c') (at h.1 (two_cells x) c above above') →
+          Comes laws p code size (There c') price now high return_high (with_cells (before body (Turn body plus ∷ w)) (Loop limit (sum_of index step) ∷ es) c)
       again plus price count x step c' above above' some cheap e h l runs =
-          comes laws p code size (at pc (Loop limit index ∷ es) c' data_above return_above) count h.1 price now high return_high out (with_cells (before body (Turn body plus ∷ w)) (Loop limit (sum_of index step) ∷ es) c) base above above' some cheap
-          (subst (λ y. Runs high return_high count (at pc (Loop limit index ∷ es) c' data_above return_above) (at h.1 (Cell y ∷ Cell limit ∷ es) c above above')) e runs)
+          comes laws p code size (There c') count h.1 price now high return_high out (with_cells (before body (Turn body plus ∷ w)) (Loop limit (sum_of index step) ∷ es) c) base above above' some cheap
+          (subst (λ y. Runs high return_high count (There c') (at h.1 (two_cells y) c above above')) e runs)
           (record {
             stands = stands_to code p body out h.1 pc (Turn body plus ∷ w) h.3 h (omega (arith, h.5));
             loops = loops_before code p body out (Turn body plus ∷ w) l;
@@ -163,59 +185,53 @@ module _ (laws : Laws) (p : SourceProgram) (code : List ℕ) (size : length code
             starts = starts;
           })
 
-      -- LOOP
-      one_turned : Stands code p out pc (Turn body false ∷ w) → Loops code p out (Turn body false ∷ w) → length c + 2 ≤ high →
-          Follows laws p code size (at pc (Loop limit index ∷ es) c data_above return_above) 12 now high return_high (turned 1 body false w (Loop limit index ∷ es) (with_cells u (Loop limit index ∷ es) c))
-      one_turned h l room =
-          let x = difference_of index limit in
-          let v = sum_of (difference_of index limit) 1 in
-          let from = at pc (Loop limit index ∷ es) c data_above return_above in
-          let a = adds_one pc h.4.0 (difference_of index limit) limit es c data_above return_above h.4.1 (difference_small limit index, (fe.0, fe.2)) fc room back in
-          let es' : List Entry = Cell (sum_of (difference_of index limit) 1) ∷ Cell limit ∷ es in
-          let middle = at h.4.0 es' (sum_of (difference_of index limit) 1 ∷ c) a.0 a.1 in
-          let above' = top (data_places c) ∷ a.0 in
-          ⊎_elim
-          (λ t. subst (λ b. Follows laws p code size (at pc (Loop limit index ∷ es) c data_above return_above) 12 now high return_high
-          (if b then Goes (with_cells w es c) else Goes (with_cells (before body (Turn body false ∷ w)) (Loop limit (sum_of index 1) ∷ es) c))) (sym t.1)
-          (let zero' : sum_of (difference_of index limit) 1 ≡ 0 = omega (arith, t.0) in
-          let b = branches h.0 h.4.0 (sum_of (difference_of index limit) 1) (Cell (sum_of (difference_of index limit) 1) ∷ Cell limit ∷ es) c a.0 a.1 zero' h.4.2 (omega arith) back in
-          over false 12 6 h.0 (sum_of (difference_of index limit) 1) c (top (data_places c) ∷ a.0) a.1 (omega arith) (omega arith) (omega arith) (omega arith) (loop_end out h.0 (Turn body false ∷ w) h.2 l)
-          (runs_then laws high return_high 5 1 from middle (at h.0 es' c above' a.1) a.2 b)))
-          (λ t. subst (λ b. Follows laws p code size (at pc (Loop limit index ∷ es) c data_above return_above) 12 now high return_high
-          (if b then Goes (with_cells w es c) else Goes (with_cells (before body (Turn body false ∷ w)) (Loop limit (sum_of index 1) ∷ es) c))) (sym t.1)
-          (let other : sum_of (difference_of index limit) 1 ≢ 0 = λ z. t.0 (let small = difference_small limit index in omega arith) in
-          let b = passes h.0 h.4.0 (sum_of (difference_of index limit) 1) (Cell (sum_of (difference_of index limit) 1) ∷ Cell limit ∷ es) c a.0 a.1 other h.4.2 (omega arith) back in
-          let j = jumps h.1 (following h.4.0) (Cell (sum_of (difference_of index limit) 1) ∷ Cell limit ∷ es) c (top (data_places c) ∷ a.0) a.1 h.4.3 (omega arith) back in
-          again false 12 7 (sum_of (difference_of index limit) 1) 1 c (top (data_places c) ∷ a.0) a.1 (omega arith) (omega arith) (next_difference index limit 1 fe.1 fe.0 (omega arith)) h l
-          (runs_then laws high return_high 5 2 from middle (at h.1 es' c above' a.1) a.2 (runs_then laws high return_high 1 1 middle (at (following h.4.0) es' c above' a.1) (at h.1 es' c above' a.1) b j))))
-          (one_crosses (difference_of index limit) (difference_small limit index))
+      -- LOOP, where 1 more is the limit, and where it is not
+      one_over : Stands code p out pc (Turn body false ∷ w) → Loops code p out (Turn body false ∷ w) → length c + 2 ≤ high → difference ≡ 65535 → Turned c 12 false 1 true
+      one_over h l room last =
+          let sum = sum_of (difference_of index limit) 1 in
+          let a = adds_one pc h.4.0 difference limit es c data_above return_above h.4.1 small_entries fc room back in
+          let b = branches h.0 h.4.0 sum (two_cells sum) c a.0 a.1 (omega (arith, last)) h.4.2 (omega arith) back in
+          over 12 6 h.0 sum c (top (data_places c) ∷ a.0) a.1 (omega arith) (omega arith) (omega arith) (omega arith) (loop_end out h.0 (Turn body false ∷ w) h.2 l)
+          (runs_then laws high return_high 5 1 (There c) (at h.4.0 (two_cells sum) (sum ∷ c) a.0 a.1) (at h.0 (two_cells sum) c (top (data_places c) ∷ a.0) a.1) a.2 b)
 
-      -- +LOOP, by whether the boundary is crossed
-      step_turned : (step : ℕ) (crossed : Bool) → step < 65536 → crosses (signed (difference_of index limit)) (signed step) ≡ crossed → int_lt (signed (signs (difference_of index limit) step)) (pos 0) ≡ crossed →
-          Stands code p out pc (Turn body true ∷ w) → Loops code p out (Turn body true ∷ w) → length c + 4 ≤ high →
-          Follows laws p code size (at pc (Loop limit index ∷ es) (step ∷ c) data_above return_above) 24 now high return_high (turned step body true w (Loop limit index ∷ es) (with_cells u (Loop limit index ∷ es) c))
-      step_turned step true small e e' h l room =
-          let from = at pc (Loop limit index ∷ es) (step ∷ c) data_above return_above in
-          let a = adds_step pc h.4.0 (difference_of index limit) limit step es c data_above return_above h.4.1 (difference_small limit index, (fe.0, fe.2)) (small, fc) room back in
-          let es' : List Entry = Cell (sum_of step (difference_of index limit)) ∷ Cell limit ∷ es in
-          let a' = subst (λ b. Runs high return_high 17 (at pc (Loop limit index ∷ es) (step ∷ c) data_above return_above) (at h.4.0 (Cell (sum_of step (difference_of index limit)) ∷ Cell limit ∷ es) (flag b ∷ c) a.0 a.1)) e' a.2 in
-          let b = passes h.1 h.4.0 65535 es' c a.0 a.1 (λ z. absurd (omega arith)) h.4.2 (omega arith) back in
-          let b' = subst (λ q. Runs high return_high 1 (at h.4.0 (Cell (sum_of step (difference_of index limit)) ∷ Cell limit ∷ es) (65535 ∷ c) a.0 a.1) (at q (Cell (sum_of step (difference_of index limit)) ∷ Cell limit ∷ es) c (top (data_places c) ∷ a.0) a.1)) h.4.3 b in
-          subst (λ b. Follows laws p code size (at pc (Loop limit index ∷ es) (step ∷ c) data_above return_above) 24 now high return_high
-          (if b then Goes (with_cells w es c) else Goes (with_cells (before body (Turn body true ∷ w)) (Loop limit (sum_of index step) ∷ es) c))) (sym e)
-          (over true 24 18 h.0 (sum_of step (difference_of index limit)) (step ∷ c) (top (data_places c) ∷ a.0) a.1 (omega arith) (omega arith) (mod-lt (step + difference_of index limit) (omega arith)) (omega arith) (loop_end out h.0 (Turn body true ∷ w) h.2 l)
-          (runs_then laws high return_high 17 1 from (at h.4.0 es' (65535 ∷ c) a.0 a.1) (at h.0 es' c (top (data_places c) ∷ a.0) a.1) a' b'))
-      step_turned step false small e e' h l room =
-          let from = at pc (Loop limit index ∷ es) (step ∷ c) data_above return_above in
-          let a = adds_step pc h.4.0 (difference_of index limit) limit step es c data_above return_above h.4.1 (difference_small limit index, (fe.0, fe.2)) (small, fc) room back in
-          let es' : List Entry = Cell (sum_of step (difference_of index limit)) ∷ Cell limit ∷ es in
-          let a' = subst (λ b. Runs high return_high 17 (at pc (Loop limit index ∷ es) (step ∷ c) data_above return_above) (at h.4.0 (Cell (sum_of step (difference_of index limit)) ∷ Cell limit ∷ es) (flag b ∷ c) a.0 a.1)) e' a.2 in
-          let b = branches h.1 h.4.0 0 es' c a.0 a.1 refl h.4.2 (omega arith) back in
-          let x : sum_of step (difference_of index limit) ≡ difference_of (sum_of index step) limit = (let y : sum_of step (difference_of index limit) ≡ sum_of (difference_of index limit) step = omega arith in y) ∙ next_difference index limit step fe.1 fe.0 small in
-          subst (λ b. Follows laws p code size (at pc (Loop limit index ∷ es) (step ∷ c) data_above return_above) 24 now high return_high
-          (if b then Goes (with_cells w es c) else Goes (with_cells (before body (Turn body true ∷ w)) (Loop limit (sum_of index step) ∷ es) c))) (sym e)
-          (again true 24 18 (sum_of step (difference_of index limit)) step (step ∷ c) (top (data_places c) ∷ a.0) a.1 (omega arith) (omega arith) x h l
-          (runs_then laws high return_high 17 1 from (at h.4.0 es' (0 ∷ c) a.0 a.1) (at h.1 es' c (top (data_places c) ∷ a.0) a.1) a' b))
+      one_again : Stands code p out pc (Turn body false ∷ w) → Loops code p out (Turn body false ∷ w) → length c + 2 ≤ high → difference ≢ 65535 → Turned c 12 false 1 false
+      one_again h l room other =
+          let sum = sum_of (difference_of index limit) 1 in
+          let small = difference_small limit index in
+          let a = adds_one pc h.4.0 difference limit es c data_above return_above h.4.1 small_entries fc room back in
+          let b = passes h.0 h.4.0 sum (two_cells sum) c a.0 a.1 (λ z. other (omega arith)) h.4.2 (omega arith) back in
+          let j = jumps h.1 (following h.4.0) (two_cells sum) c (top (data_places c) ∷ a.0) a.1 h.4.3 (omega arith) back in
+          again false 12 7 sum 1 c (top (data_places c) ∷ a.0) a.1 (omega arith) (omega arith) (next_difference index limit 1 fe.1 fe.0 (omega arith)) h l
+          (runs_then laws high return_high 6 1 (There c) (at (following h.4.0) (two_cells sum) c (top (data_places c) ∷ a.0) a.1) (at h.1 (two_cells sum) c (top (data_places c) ∷ a.0) a.1)
+          (runs_then laws high return_high 5 1 (There c) (at h.4.0 (two_cells sum) (sum ∷ c) a.0 a.1) (at (following h.4.0) (two_cells sum) c (top (data_places c) ∷ a.0) a.1) a.2 b) j)
+
+      one_turned : Stands code p out pc (Turn body false ∷ w) → Loops code p out (Turn body false ∷ w) → length c + 2 ≤ high →
+          Follows laws p code size (There c) 12 now high return_high (turned 1 body false w (Loop limit index ∷ es) (with_cells u (Loop limit index ∷ es) c))
+      one_turned h l room =
+          ⊎_elim (λ t. subst (Turned c 12 false 1) (sym t.1) (one_over h l room t.0)) (λ t. subst (Turned c 12 false 1) (sym t.1) (one_again h l room t.0)) (one_crosses difference (difference_small limit index))
+
+      -- +LOOP, where the boundary is crossed, and where it is not
+      step_followed : (step : ℕ) (crossed : Bool) → step < 65536 → int_lt (signed (signs difference step)) (pos 0) ≡ crossed → Stands code p out pc (Turn body true ∷ w) → Loops code p out (Turn body true ∷ w) → length c + 4 ≤ high → Turned (step ∷ c) 24 true step crossed
+      step_followed step true small e h l room =
+          let sum = sum_of step (difference_of index limit) in
+          let a = adds_step pc h.4.0 difference limit step es c data_above return_above h.4.1 small_entries (small, fc) room back in
+          let a' = subst (λ b. Runs high return_high 17 (There (step ∷ c)) (at h.4.0 (two_cells sum) (flag b ∷ c) a.0 a.1)) e a.2 in
+          let b = passes h.1 h.4.0 65535 (two_cells sum) c a.0 a.1 (λ z. absurd (omega arith)) h.4.2 (omega arith) back in
+          let b' = subst (λ q. Runs high return_high 1 (at h.4.0 (two_cells sum) (65535 ∷ c) a.0 a.1) (at q (two_cells sum) c (top (data_places c) ∷ a.0) a.1)) h.4.3 b in
+          over 24 18 h.0 sum (step ∷ c) (top (data_places c) ∷ a.0) a.1 (omega arith) (omega arith) (mod-lt (step + difference) (omega arith)) (omega arith) (loop_end out h.0 (Turn body true ∷ w) h.2 l)
+          (runs_then laws high return_high 17 1 (There (step ∷ c)) (at h.4.0 (two_cells sum) (65535 ∷ c) a.0 a.1) (at h.0 (two_cells sum) c (top (data_places c) ∷ a.0) a.1) a' b')
+      step_followed step false small e h l room =
+          let sum = sum_of step (difference_of index limit) in
+          let a = adds_step pc h.4.0 difference limit step es c data_above return_above h.4.1 small_entries (small, fc) room back in
+          let a' = subst (λ b. Runs high return_high 17 (There (step ∷ c)) (at h.4.0 (two_cells sum) (flag b ∷ c) a.0 a.1)) e a.2 in
+          let b = branches h.1 h.4.0 0 (two_cells sum) c a.0 a.1 refl h.4.2 (omega arith) back in
+          again true 24 18 sum step (step ∷ c) (top (data_places c) ∷ a.0) a.1 (omega arith) (omega arith) (sum_turned step difference ∙ next_difference index limit step fe.1 fe.0 small) h l
+          (runs_then laws high return_high 17 1 (There (step ∷ c)) (at h.4.0 (two_cells sum) (0 ∷ c) a.0 a.1) (at h.1 (two_cells sum) c (top (data_places c) ∷ a.0) a.1) a' b)
+
+      step_turned : (step : ℕ) → step < 65536 → Stands code p out pc (Turn body true ∷ w) → Loops code p out (Turn body true ∷ w) → length c + 4 ≤ high →
+          Follows laws p code size (There (step ∷ c)) 24 now high return_high (turned step body true w (Loop limit index ∷ es) (with_cells u (Loop limit index ∷ es) c))
+      step_turned step small h l room =
+          subst (Turned (step ∷ c) 24 true step) (sym (signs_cross difference step (difference_small limit index) small)) (step_followed step (int_lt (signed (signs difference step)) (pos 0)) small refl h l room)
 
     -- the end of a turn
     pub turn_follows : (out : Option ℕ) (body : Nodes) (plus : Bool) (w u : List Work) (es : List Entry) (c : List ℕ) → Stands code p out pc (Turn body plus ∷ w) → Loops code p out (Turn body plus ∷ w) → AreEntries es → AreCells c →
@@ -227,4 +243,4 @@ module _ (laws : Laws) (p : SourceProgram) (code : List ℕ) (size : length code
     turn_follows out body true w u [] (step ∷ c) h l fe fc room back = tt
     turn_follows out body true w u (Cell x ∷ es) (step ∷ c) h l fe fc room back = tt
     turn_follows out body true w u (Loop limit index ∷ es) (step ∷ c) h l fe fc room back =
-        step_turned out body w u limit index es c fe fc.1 back step (int_lt (signed (signs (difference_of index limit) step)) (pos 0)) fc.0 (signs_cross (difference_of index limit) step (difference_small limit index) fc.0) refl h l (omega arith)
+        step_turned out body w u limit index es c fe fc.1 back step fc.0 h l (omega arith)

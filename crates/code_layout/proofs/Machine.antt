@@ -56,9 +56,6 @@ module _ (laws : Laws) where
   pub wider : (low high return_low return_high high' return_high' n : ℕ) (v : OpenConfiguration) → high ≤ high' → return_high ≤ return_high' → BeforeEach (StaysWithin low high return_low return_high) 0x2000 n v → BeforeEach (StaysWithin 0 high' 0 return_high') 0x2000 n v
   wider low high return_low return_high high' return_high' n v h r before = laws.bounds_widen low high return_low return_high 0 high' 0 return_high' n 0x2000 v (omega arith) h (omega arith) r before
 
-  pub runs_more : (high return_high high' return_high' n : ℕ) (from to : OpenConfiguration) → high ≤ high' → return_high ≤ return_high' → Runs high return_high n from to → Runs high' return_high' n from to
-  runs_more high return_high high' return_high' n from to h r runs = record { makes = runs.makes; bounds = wider 0 high 0 return_high high' return_high' n from h r runs.bounds }
-
   pub runs_then : (high return_high a b : ℕ) (from middle to : OpenConfiguration) → Runs high return_high a from middle → Runs high return_high b middle to → Runs high return_high (a + b) from to
   runs_then high return_high a b from middle to one two = record {
     makes = laws.runs_join a b 0x2000 from ∙ ap (run open_storage 0x2000 b) one.makes ∙ two.makes;

@@ -1,13 +1,18 @@
 -- Images of small programs, and what they print.
-use Rattle.std.proofs.Common.{◌≡◌, ℕ, ◌+◌, false, true, List, [], ◌∷◌, ◌++◌, length, refl, ap, ◌∙◌, arith}
+use Rattle.std.proofs.Common.{◌≡◌, ℕ, zero, suc, ◌+◌, ◌<◌, subst, rules, false, true, List, [], ◌∷◌, ◌++◌, length, refl, ap, ◌∙◌, arith}
 use Rattle.word_table.specs.declared.word.Word.TheVariants.{Emit, Plus, Dup, DropTop, OneMinus, ZeroEqual, Index}
 use Rattle.word_table.specs.Table.{cells_of}
 use Rattle.forth_program.specs.Tree.{Node, Nodes, Literal, Plain, Call, If, Until, While, Do, Leave, Exit, Empty, Then}
+use Rattle.forth_program.specs.State.{State, Halted, Stored, Outcome, Goes, Ends}
 use Rattle.forth_program.specs.Program.{SourceProgram}
+use Rattle.forth_program.specs.Step.{first, step}
+use Rattle.forth_program.specs.Run.{and_then, steps, first_world, first_state, source_run}
 use Rattle.j1_simulator.specs.Run.{open_run}
 use Rattle.word_laws.specs.Numbers.{number_cells}
 use Rattle.code_layout.specs.Layout.{nodes_cells, bodies_cells, begins_at, header, laid_out}
 use Rattle.code_layout.specs.Built.{IsBuilt}
+use Rattle.code_layout.specs.Stacks.{DepthFits}
+use Rattle.code_layout.specs.Agreement.{GoesWell, DoesAsMuch, ImagesAgree}
 
 -- a program with these definitions, of which the last is MAIN
 abbrev program : List Nodes → ℕ → ℕ → SourceProgram
@@ -114,3 +119,36 @@ leaving_is_built = record { has_main = omega arith; items = refl; leaves_in_loop
 leaving_prints : (open_run (laid_out leaving) [] 120).printed ≡ 0 ∷ 1 ∷ 7 ∷ []
 unfolding leaving
 leaving_prints = refl
+
+-- ---- what is meant, and that the law applies
+
+two_means : source_run two [] 10 ≡ Ends (Halted 0) (record (first_world two []) { printed = 65 ∷ []; made = Stored 0x4000 65 ∷ [] })
+unfolding two source_run steps step
+two_means = refl
+
+abbrev on_state : Outcome → (State → Type 0) → Type 0
+on_state (Goes s) holds = holds s
+on_state (Ends end world) holds = Unit {0}
+
+-- DEPTH fits in each of k steps, one after the other
+abbrev EachFits : SourceProgram → ℕ → State → Type 0
+EachFits p zero s = Unit {0}
+EachFits p (suc k) s = DepthFits (first s.work) s.cells × on_state (step p s) (EachFits p k)
+
+each_fits : (p : SourceProgram) (k : ℕ) (s : State) → EachFits p k s → (j : ℕ) (t : State) → j < k → steps p j s ≡ Goes t → DepthFits (first t.work) t.cells
+unfolding steps
+each_fits p zero s fits j t lt e = absurd (omega arith)
+each_fits p (suc k) s fits zero t lt e = let same : s ≡ t = cc in subst (λ x. DepthFits (first x.work) x.cells) same fits.0
+each_fits p (suc k) s fits (suc j) t lt e = later (step p s) fits.1 e (λ m fits e. each_fits p k m fits j t (omega arith) e)
+  where
+    later : (o : Outcome) → on_state o (EachFits p k) → and_then o (steps p j) ≡ Goes t → ((m : State) → EachFits p k m → steps p j m ≡ Goes t → DepthFits (first t.work) t.cells) → DepthFits (first t.work) t.cells
+    later (Goes m) fits e onward = onward m fits e
+    later (Ends end world) fits e onward = absurd (cc)
+
+two_goes_well : GoesWell two [] 10
+unfolding two source_run steps step
+two_goes_well = record { lacks_nothing = refl; depth_fits = each_fits two 10 (first_state two []) (search rules) }
+
+two_does_as_much : ImagesAgree → DoesAsMuch two [] 10
+unfolding two
+two_does_as_much agree = agree.as_much two [] 10 two_is_built (search rules) (search rules) two_goes_well

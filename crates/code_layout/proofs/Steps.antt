@@ -1,5 +1,5 @@
 -- One word step: numbers, words, calls, decisions and ends of bodies.
-use Rattle.std.proofs.Common.{◌≡◌, ℕ, zero, suc, ◌+◌, ◌-◌, ◌*◌, ◌/◌, ◌%◌, ◌<◌, ◌≤◌, nat_le, IsTrue, true, false, List, [], ◌∷◌, length, Option, Some, None, refl, sym, ap, ◌∙◌, subst, arith}
+use Rattle.std.proofs.Common.{◌≡◌, ℕ, zero, suc, ◌+◌, ◌-◌, ◌*◌, ◌/◌, ◌<◌, ◌≤◌, nat_le, IsTrue, true, false, List, [], ◌∷◌, length, Option, Some, None, refl, sym, ap, ◌∙◌, subst, arith}
 use Rattle.std.specs.Prelude.{nat_lt, if◌then◌else◌}
 use Rattle.std.proofs.lemmas.Bool.Decides.{nat_tests}
 use Rattle.word_table.specs.declared.word.Word.{Word}
@@ -40,9 +40,6 @@ number_some value = elim (nat_lt value 0x8000) as (λ b. 1 ≤ length (if b then
 cells_priced : (word : Word) → IsTrue (nat_le (length (cells_of word)) (entry_of word).base)
 cells_priced Dup = refl
 cells_priced word = refl
-
-back_to : (pc : ℕ) → 2 * following pc / 2 % 0x2000 ≡ following pc
-back_to pc = omega arith
 
 pub applies : (word : Word) (after : List Work) (c : List ℕ) (w : World) → DepthFits (IsWord word after) c → w.data_start ≡ 0x2000 → CellsApply word c w
 applies Depth after c w fits starts = fits
