@@ -62,7 +62,7 @@ pub record DoesAsMuch (p : SourceProgram) (input : List ℕ) (k : ℕ) : Type 0 
 abbrev pub ImagesDoAsMuch : Type 0
 ImagesDoAsMuch = (p : SourceProgram) (input : List ℕ) (k : ℕ) → IsBuilt p → AreBytes p.first_space → AreBytes input → GoesWell p input k → DoesAsMuch p input k
 
--- what n instructions print is a beginning of what those word steps print, and an end of theirs is the source's
+-- what n instructions print is a beginning of what those word steps print, and where they have ended the source has ended alike
 pub record DoesNoMore (p : SourceProgram) (input : List ℕ) (n : ℕ) : Type 0 where
   pub prints : IsPrefixOf (open_run (laid_out p) input n).printed (world_of (source_run p input (word_steps p n))).printed
   pub ends : (stop : Stop) → (open_run (laid_out p) input n).stop ≡ Some stop → (end : End) × (end_of (source_run p input (word_steps p n)) ≡ Some end) × (machine_end end ≡ Some stop)
