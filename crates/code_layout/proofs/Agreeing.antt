@@ -21,7 +21,7 @@ use Rattle.code_layout.proofs.Runs.{Reaches, reaches}
 use Rattle.code_layout.proofs.Image.{first_world_is, code_size, begins, main_called, all_stand}
 
 -- no end of a source is a lack of the open machine
-never_missing : (o : Outcome) → stop_of o ≡ Some Missing → ⊥
+pub never_missing : (o : Outcome) → stop_of o ≡ Some Missing → ⊥
 never_missing (Goes s) e = cc
 never_missing (Ends (Halted status) world) e = cc
 never_missing (Ends InputEnded world) e = cc
@@ -30,7 +30,7 @@ never_missing (Ends Underflow world) e = cc
 never_missing (Ends Unbalanced world) e = cc
 
 -- where nothing is lacking, the machine has an end for the source's
-stop_at : (end : End) (world : World) → lacks (Ends end world) ≡ false → (stop : Stop) × (machine_end end ≡ Some stop)
+pub stop_at : (end : End) (world : World) → lacks (Ends end world) ≡ false → (stop : Stop) × (machine_end end ≡ Some stop)
 stop_at (Halted status) world e = (_, refl)
 stop_at InputEnded world e = (_, refl)
 stop_at (Outside address) world e = (_, refl)

@@ -105,7 +105,7 @@ begins_low place at (body ∷ bodies) (suc d) h =
 
 -- ---- the image
 
-filled_length : (n : ℕ) (cells : List ℕ) → length cells ≤ n → length (filled n cells) ≡ n
+pub filled_length : (n : ℕ) (cells : List ℕ) → length cells ≤ n → length (filled n cells) ≡ n
 filled_length n cells few = simp (length-append, length-replicate) (omega arith)
 
 module _ (laws : Laws) (p : SourceProgram) (built : IsBuilt p) where

@@ -11,3 +11,4 @@ pub mod Runs
 pub mod Laying
 pub mod Image
 pub mod Agreeing
+pub mod Chips

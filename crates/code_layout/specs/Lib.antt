@@ -2,3 +2,4 @@ pub mod Layout
 pub mod Built
 pub mod Stacks
 pub mod Agreement
+pub mod Chip

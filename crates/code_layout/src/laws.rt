@@ -1,10 +1,12 @@
 // What the open machine does on the image of a program.
 ghost use Rattle.code_layout.specs.Agreement.{ImagesAgree};
+ghost use Rattle.code_layout.specs.Chip.{ChipsAgree};
 
 use j1_simulator::runs_only_grow;
 use word_laws::{
-    cells_stand, control_leads, halt_ends, needs_are_exact, numbers_do_their_meaning, runs_join,
-    words_do_their_meaning, words_keep_their_bounds, words_leave_cells,
+    cells_stand, control_leads, halt_ends, needs_are_exact, numbers_do_their_meaning,
+    rings_do_the_same, runs_join, words_do_their_meaning, words_keep_their_bounds,
+    words_leave_cells,
 };
 
 /// As long as a source lacks no cells and no return entries, its image does what the source does, within the price of the word
@@ -21,6 +23,17 @@ pub fn images_agree()
     control_leads();
     halt_ends();
     cells_stand();
+    runs_join();
+    runs_only_grow();
+}
+
+/// Where the source never lacks cells or return entries, and no step needs more than 33 data cells or 32 return cells, the chip
+/// with its rings agrees with the source, both ways and within stated steps, and wraps no stack.
+pub fn chips_agree()
+    ensures { ChipsAgree }
+{
+    images_agree();
+    rings_do_the_same();
     runs_join();
     runs_only_grow();
 }

@@ -8,4 +8,4 @@
 
 mod laws;
 
-pub use laws::images_agree;
+pub use laws::{chips_agree, images_agree};
