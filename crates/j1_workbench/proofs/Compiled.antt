@@ -16,7 +16,7 @@ use Rattle.j1_workbench.specs.Certificate.{is_certified}
 use Rattle.j1_workbench.specs.Judgement.{judgement_of, judged, Compiles, IsAnswered}
 use Rattle.code_layout.specs.Layout.{laid_out}
 use Rattle.code_layout.specs.Agreement.{AreBytes}
-use Rattle.j1_workbench.specs.Headline.{Agrees}
+use Rattle.code_layout.specs.Chip.{AgreesOnChip}
 use Rattle.j1_workbench.specs.HeadlineLaw.{LinesAgree}
 use Rattle.j1_workbench.specs.Answers.{IsRefusal, RunLeaves, IsCompiled}
 use Rattle.j1_workbench.proofs.Driving.{front_of_nothing}
@@ -40,7 +40,7 @@ compiles text program e =
       | false ↦ λ same. cc
     ] e
 
-text_agrees : LinesAgree → EachProgramIsOneLine → (text input : List ℕ) (program : SourceProgram) → judged text ≡ Compiles program → AreBytes input → Agrees program (laid_out program) input
+text_agrees : LinesAgree → EachProgramIsOneLine → (text input : List ℕ) (program : SourceProgram) → judged text ≡ Compiles program → AreBytes input → AgreesOnChip program input
 text_agrees agree lines text input program built bytes =
     let is = compiles text program built in
     agree program input (lines text program is.0) is.1 bytes

@@ -4,6 +4,5 @@ pub mod Digits
 pub mod Driving
 pub mod Files
 pub mod Walking
-pub mod LineAgrees
 pub mod LineSource
 pub mod Lines

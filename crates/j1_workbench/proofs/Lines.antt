@@ -12,17 +12,20 @@ use Rattle.cell_math.specs.Bytes.{filled}
 use Rattle.forth_program.specs.Tree.{Nodes, Literal, Plain, Empty, Then}
 use Rattle.forth_program.specs.Program.{SourceProgram, body_of}
 use Rattle.forth_program.specs.Form.{everywhere, leaves_fit}
+use Rattle.forth_program.specs.Run.{first_state, first_world, source_run}
 use Rattle.control_flow.specs.SourceText.{fixed_space, program_with}
 use Rattle.control_flow.specs.SourceLaw.{IsLine, line_weight, line_length, IsOneLine}
 use Rattle.word_laws.specs.Numbers.{number_cells}
-use Rattle.word_laws.specs.Words.{stands_plain}
+use Rattle.word_laws.specs.Words.{stands_plain, NeedsAreExact, WordsChangeDepths}
 use Rattle.code_layout.specs.Layout.{nodes_cells, place_of, laid_out}
 use Rattle.code_layout.specs.Built.{is_laid_out, tokens, IsBuilt}
-use Rattle.code_layout.specs.Agreement.{AreBytes, code_of}
+use Rattle.code_layout.specs.Stacks.{StacksFit}
+use Rattle.code_layout.specs.Agreement.{AreBytes, GoesWell}
+use Rattle.code_layout.specs.Chip.{ChipsAgree}
+use Rattle.j1_workbench.specs.Certificate.{most_cells, is_certified}
 use Rattle.j1_workbench.specs.HeadlineLaw.{LinesAgree}
-use Rattle.j1_workbench.proofs.Walking.{both}
-use Rattle.j1_workbench.proofs.LineSource.{inline_plain}
-use Rattle.j1_workbench.proofs.LineAgrees.{Laws, line_agrees}
+use Rattle.j1_workbench.proofs.Walking.{both, small_most}
+use Rattle.j1_workbench.proofs.LineSource.{inline_plain, GoesThrough, goes_through}
 
 -- ---- what is laid out
 
@@ -96,12 +99,6 @@ lines_are_built p one = subst IsBuilt (sym one.program_is) (built_with one.name 
 
 -- ---- the law
 
-filled_length : (n : ℕ) (cells : List ℕ) → length cells ≤ n → length (filled n cells) ≡ n
-filled_length n cells few = simp (length-append, length-replicate) (omega arith)
-
-code_size : (p : SourceProgram) → IsBuilt p → length (code_of p) ≡ p.data_start / 2
-code_size p built = filled_length (p.data_start / 2) (laid_out p).cells (let few = built.code_fits in let start = built.data_start in omega (arith, few, start))
-
 are_bytes : (bytes : List ℕ) → list_all (λ byte. nat_lt byte 256) bytes ≡ true → AreBytes bytes
 are_bytes [] small = λ k d inside. absurd (omega arith)
 are_bytes (byte ∷ bytes) small =
@@ -109,11 +106,20 @@ are_bytes (byte ∷ bytes) small =
     let low : byte < 256 = let h = tests.0 in grind (arith, nat_tests) in
     All-cons (λ byte. byte < 256) byte bytes low (are_bytes bytes tests.1)
 
-pub agree : Laws → LinesAgree
-agree laws p input one certified bytes =
-    let built = lines_are_built p one in
-    line_agrees laws p input built
-    (subst AreBytes (sym (ap (λ p. p.first_space) one.program_is)) (are_bytes fixed_space refl)) bytes
-    (subst (λ p. IsLine (body_of p p.main_body)) (sym one.program_is) one.line) certified
-    (subst (λ p. line_length (body_of p p.main_body) + 3 ≤ p.source_tokens) (sym one.program_is) one.tokens)
-    (code_size p built)
+module _ (needs : NeedsAreExact) (depths : WordsChangeDepths) (p : SourceProgram) (input : List ℕ) (line : IsLine (body_of p p.main_body)) (certified : is_certified p ≡ true) where
+  through : (k : ℕ) → GoesThrough p (line_length (body_of p p.main_body)) k (first_state p input)
+  through k = goes_through needs depths p (most_cells p) (small_most p (most_cells p) refl) (body_of p p.main_body) k [] (first_world p input) line certified
+
+  well : (k : ℕ) → GoesWell p input k
+  unfolding source_run
+  well k = let t = through k in record { lacks_nothing = t.lacks_nothing; depth_fits = λ j s early e. (t.fits j s early e).depth }
+
+  stacks : (k : ℕ) → StacksFit p input 33 32 k
+  unfolding source_run
+  stacks k = λ j s early e. let f = (through k).fits j s early e in (f.data_cells, f.return_cells)
+
+pub agree : ChipsAgree → NeedsAreExact → WordsChangeDepths → LinesAgree
+agree chips needs depths p input one certified bytes =
+    let line = subst (λ p. IsLine (body_of p p.main_body)) (sym one.program_is) one.line in
+    chips p input (lines_are_built p one) (subst AreBytes (sym (ap (λ p. p.first_space) one.program_is)) (are_bytes fixed_space refl)) bytes
+    (well needs depths p input line certified) (stacks needs depths p input line certified)

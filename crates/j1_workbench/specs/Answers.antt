@@ -20,7 +20,7 @@ use Rattle.j1_workbench.specs.Statuses.{status_of}
 use Rattle.j1_workbench.specs.Judgement.{judged, IsAnswered}
 use Rattle.code_layout.specs.Layout.{laid_out}
 use Rattle.code_layout.specs.Agreement.{AreBytes}
-use Rattle.j1_workbench.specs.Headline.{Agrees}
+use Rattle.code_layout.specs.Chip.{AgreesOnChip}
 use Rattle.j1_workbench.specs.Notes.{note_of}
 use Rattle.forth_program.specs.Program.{SourceProgram}
 
@@ -130,4 +130,4 @@ TellsNote words before now faults_before faults_now =
 -- a source was compiled: what the call leaves is what its image does on the chip, and its image agrees with what the source means
 pub record IsCompiled (program : SourceProgram) (input : List ℕ) (steps : ℕ) (status : Status) (left before now : Option (List ℕ)) : Type 0 where
   pub run : RunLeaves (laid_out program) input steps status left before now
-  pub agrees : AreBytes input → Agrees program (laid_out program) input
+  pub agrees : AreBytes input → AgreesOnChip program input

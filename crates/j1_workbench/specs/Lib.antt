@@ -5,6 +5,5 @@ pub mod Certificate
 pub mod Judgement
 pub mod Notes
 pub mod Statuses
-pub mod Headline
 pub mod HeadlineLaw
 pub mod Answers
