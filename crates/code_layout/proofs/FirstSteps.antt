@@ -34,7 +34,7 @@ module _ (laws : Laws) (p : SourceProgram) (code : List ℕ) (size : length code
         (loops_before code p first out (TrueEnd ∷ after) l) fe fc room back
 
     first_follows : (f : First) (w : List Work) (es : List Entry) (c : List ℕ) → Stands code p out pc (back code p f) → Loops code p out (back code p f) → ahead (back code p f) ≤ now → AreEntries es → AreCells c → DepthFits f c →
-        length c + peak_of f ≤ high → length (return_places es base) + back_of f ≤ return_high →
+        length c + peak_of fs f ≤ high → length (return_places es base) + back_of f ≤ return_high →
         Follows laws p code size (standing_as (here [] es c) code pc base data_above return_above) (first_price f c world) now high return_high (act p f (here w es c))
     first_follows BodyEnd w es c h l n fe fc fit room back = body_ends laws p code size all high return_high pc now world fits starts data_above return_above fs w es c base frames h fc room (omega arith)
     first_follows IsExit w es c h l n fe fc fit room back = body_ends laws p code size all high return_high pc now world fits starts data_above return_above fs w es c base frames h.0 fc room (omega arith)
@@ -69,9 +69,9 @@ module _ (laws : Laws) (p : SourceProgram) (code : List ℕ) (size : length code
 
   -- from where a state stands the machine follows its step
   pub step_follows : (out : Option ℕ) (pc : ℕ) (s : State) (base data_above return_above : List (Option ℕ)) → Meets code p out pc s base → DepthFits (first s.work) s.cells →
-      Follows laws p code size (standing_as s code pc base data_above return_above) (step_price s) (ahead s.work) (length s.cells + peak_of (first s.work)) (length (return_places s.entries base) + back_of (first s.work)) (step p s)
+      Follows laws p code size (standing_as s code pc base data_above return_above) (step_price s) (ahead s.work) (length s.cells + peak_of s.callers (first s.work)) (length (return_places s.entries base) + back_of (first s.work)) (step p s)
   unfolding step
   step_follows out pc s base data_above return_above m fit =
       let o = opens code p out pc s.work m.stands m.loops in
-      first_follows (length s.cells + peak_of (first s.work)) (length (return_places s.entries base) + back_of (first s.work)) pc (ahead s.work) o.out s.callers s.world m.world m.starts base data_above return_above m.frames
+      first_follows (length s.cells + peak_of s.callers (first s.work)) (length (return_places s.entries base) + back_of (first s.work)) pc (ahead s.work) o.out s.callers s.world m.world m.starts base data_above return_above m.frames
       (first s.work) s.work s.entries s.cells o.stands o.loops o.fewer m.entries m.cells fit (omega arith) (omega arith)

@@ -235,7 +235,7 @@ module _ (laws : Laws) (p : SourceProgram) (code : List ℕ) (size : length code
 
     -- the end of a turn
     pub turn_follows : (out : Option ℕ) (body : Nodes) (plus : Bool) (w u : List Work) (es : List Entry) (c : List ℕ) → Stands code p out pc (Turn body plus ∷ w) → Loops code p out (Turn body plus ∷ w) → AreEntries es → AreCells c →
-        length c + peak_of (IsTurn body plus w) ≤ high → length (return_places es base) ≤ return_high → Follows laws p code size (at pc es c data_above return_above) (turn_price plus) now high return_high (turn body plus w c (with_cells u es c))
+        length c + peak_of fs (IsTurn body plus w) ≤ high → length (return_places es base) ≤ return_high → Follows laws p code size (at pc es c data_above return_above) (turn_price plus) now high return_high (turn body plus w c (with_cells u es c))
     turn_follows out body false w u [] c h l fe fc room back = tt
     turn_follows out body false w u (Cell x ∷ es) c h l fe fc room back = tt
     turn_follows out body false w u (Loop limit index ∷ es) c h l fe fc room back = one_turned out body w u limit index es c fe fc back h l room

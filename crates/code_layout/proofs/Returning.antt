@@ -10,6 +10,7 @@ use Rattle.word_laws.specs.Rings.{OpenConfiguration, BeforeEach}
 use Rattle.word_laws.specs.Bounds.{StaysWithin}
 use Rattle.word_laws.specs.Cells.{AreCells, IsWorld}
 use Rattle.word_laws.specs.Standing.{return_places, counted, HasCome}
+use Rattle.code_layout.specs.Stacks.{end_peak}
 use Rattle.code_layout.proofs.Work.{Returns, Waits, Frames}
 use Rattle.code_layout.proofs.Machine.{Laws, Runs, narrower, wider, runs_one}
 use Rattle.code_layout.proofs.Steps.{Comes, Halts, Follows, comes, AllStand}
@@ -65,7 +66,7 @@ module _ (laws : Laws) (p : SourceProgram) (code : List ℕ) (size : length code
       (comes laws p code size v 1 (following waits.pc) 1 now high return_high waits.out after below data_above (Some (2 * following waits.pc) ∷ return_above) (omega arith) (omega arith) goes'
       (record { stands = waits.stands; loops = waits.loops; frames = frames; cells = fc; entries = waits.entries; world = fits; starts = starts }))
 
-  pub body_ends : (fs : List Frame) (w : List Work) (es : List Entry) (c : List ℕ) (base : List (Option ℕ)) → Frames code p fs base → Returns code p pc → AreCells c → length c + 2 ≤ high → length (return_places es base) ≤ return_high →
+  pub body_ends : (fs : List Frame) (w : List Work) (es : List Entry) (c : List ℕ) (base : List (Option ℕ)) → Frames code p fs base → Returns code p pc → AreCells c → length c + end_peak fs ≤ high → length (return_places es base) ≤ return_high →
       Follows laws p code size (counted code pc c (return_places es base) data_above return_above world) 1 now high return_high (left es fs (record { work = w; entries = es; callers = fs; cells = c; world = world }))
   body_ends fs w (entry ∷ es) c base frames returns fc room back = tt
   body_ends [] w [] c base frames returns fc room back =

@@ -54,7 +54,7 @@ DepthsFit p k s = (j : ℕ) (t : State) → j < k → steps p j s ≡ Goes t →
 
 -- and so many cells are enough for them
 abbrev pub CellsFit : SourceProgram → ℕ → ℕ → ℕ → State → Type 0
-CellsFit p high return_high k s = (j : ℕ) (t : State) → j < k → steps p j s ≡ Goes t → (length t.cells + peak_of (first t.work) ≤ high) × (return_height t + back_of (first t.work) ≤ return_high)
+CellsFit p high return_high k s = (j : ℕ) (t : State) → j < k → steps p j s ≡ Goes t → (length t.cells + peak_of t.callers (first t.work) ≤ high) × (return_height t + back_of (first t.work) ≤ return_high)
 
 module _ (laws : Laws) (p : SourceProgram) (code : List ℕ) (size : length code ≡ 4096) (all : AllStand laws p code size) where
   -- k word steps, and as many instructions as do the same
@@ -131,20 +131,20 @@ module _ (laws : Laws) (p : SourceProgram) (code : List ℕ) (size : length code
       next (step p s) refl (step_follows laws p code size all out pc s base data_above return_above m (depths 0 s (omega arith) (no_steps p s)))
       (λ total pc out s base data_above return_above m sound depths. reaches k total pc out s base data_above return_above m sound depths)
     where
-      fits : (high' return_high' : ℕ) → CellsFit p high' return_high' (suc k) s → (length s.cells + peak_of (first s.work) ≤ high') × (length (return_places s.entries base) + back_of (first s.work) ≤ return_high')
+      fits : (high' return_high' : ℕ) → CellsFit p high' return_high' (suc k) s → (length s.cells + peak_of s.callers (first s.work) ≤ high') × (length (return_places s.entries base) + back_of (first s.work) ≤ return_high')
       fits high' return_high' fit = let f = fit 0 s (omega arith) (no_steps p s) in (f.0, (let g = f.1 in omega (arith, g, height_is out pc s base m)))
 
-      next : (o : Outcome) → step p s ≡ o → Follows laws p code size (standing_as s code pc base data_above return_above) (step_price s) (ahead s.work) (length s.cells + peak_of (first s.work)) (length (return_places s.entries base) + back_of (first s.work)) o →
+      next : (o : Outcome) → step p s ≡ o → Follows laws p code size (standing_as s code pc base data_above return_above) (step_price s) (ahead s.work) (length s.cells + peak_of s.callers (first s.work)) (length (return_places s.entries base) + back_of (first s.work)) o →
           ((total pc : ℕ) (out : Option ℕ) (s : State) (base data_above return_above : List (Option ℕ)) → Meets code p out pc s base → lacks (steps p k s) ≡ false → DepthsFit p k s → Reaches k total (ahead s.work) s (standing_as s code pc base data_above return_above)) →
           Reaches (suc k) total (ahead s.work) s (standing_as s code pc base data_above return_above)
       next (Goes after) e c later =
-          goes_on k total (ahead s.work) s after (standing_as s code pc base data_above return_above) (length s.cells + peak_of (first s.work)) (length (return_places s.entries base) + back_of (first s.work)) e c
+          goes_on k total (ahead s.work) s after (standing_as s code pc base data_above return_above) (length s.cells + peak_of s.callers (first s.work)) (length (return_places s.entries base) + back_of (first s.work)) e c
           (later (total + step_price s) c.to c.out after c.base c.data_above c.return_above c.meets (sym (ap lacks (steps_on p s k total after e)) ∙ sound) (λ j t lt q. depths (suc j) t (omega arith) (steps_on p s j total after e ∙ q))) fits
       next (Ends Underflow world) e c later = let f : true ≡ false = sym (ap lacks (steps_end p s k total Underflow world e)) ∙ sound in cc
       next (Ends Unbalanced world) e c later = let f : true ≡ false = sym (ap lacks (steps_end p s k total Unbalanced world e)) ∙ sound in cc
       next (Ends (Halted status) world) e c later =
-          ends_at k total (ahead s.work) s (standing_as s code pc base data_above return_above) (length s.cells + peak_of (first s.work)) (length (return_places s.entries base) + back_of (first s.work)) (Halted status) world e c fits
+          ends_at k total (ahead s.work) s (standing_as s code pc base data_above return_above) (length s.cells + peak_of s.callers (first s.work)) (length (return_places s.entries base) + back_of (first s.work)) (Halted status) world e c fits
       next (Ends InputEnded world) e c later =
-          ends_at k total (ahead s.work) s (standing_as s code pc base data_above return_above) (length s.cells + peak_of (first s.work)) (length (return_places s.entries base) + back_of (first s.work)) InputEnded world e c fits
+          ends_at k total (ahead s.work) s (standing_as s code pc base data_above return_above) (length s.cells + peak_of s.callers (first s.work)) (length (return_places s.entries base) + back_of (first s.work)) InputEnded world e c fits
       next (Ends (Outside address) world) e c later =
-          ends_at k total (ahead s.work) s (standing_as s code pc base data_above return_above) (length s.cells + peak_of (first s.work)) (length (return_places s.entries base) + back_of (first s.work)) (Outside address) world e c fits
+          ends_at k total (ahead s.work) s (standing_as s code pc base data_above return_above) (length s.cells + peak_of s.callers (first s.work)) (length (return_places s.entries base) + back_of (first s.work)) (Outside address) world e c fits

@@ -22,17 +22,22 @@ callers_height (frame ∷ callers) = 1 + entries_height frame.entries + callers_
 abbrev pub return_height : State → ℕ
 return_height s = entries_height s.entries + callers_height s.callers
 
--- the data cells that a step takes above those of its state, as the word table says: the end of MAIN takes two for its halt
-abbrev pub peak_of : First → ℕ
-peak_of BodyEnd = 2
-peak_of IsExit = 2
-peak_of (IsLiteral value after) = (entry_of table.Literal).peak
-peak_of (IsWord word after) = (entry_of word).peak
-peak_of (IsDo body plus after) = (entry_of table.Do).peak
-peak_of (IsTurn body false after) = (entry_of table.Loop).peak
-peak_of (IsTurn body true after) = (entry_of table.PlusLoop).peak
-peak_of (IsLeave after) = (entry_of table.Leave).peak
-peak_of first = 0
+-- the end of MAIN takes two data cells for its halt
+abbrev pub end_peak : List Frame → ℕ
+end_peak [] = 2
+end_peak (frame ∷ callers) = 0
+
+-- the data cells that a step takes above those of its state, as the word table says, where these frames wait below
+abbrev pub peak_of : List Frame → First → ℕ
+peak_of callers BodyEnd = end_peak callers
+peak_of callers IsExit = end_peak callers
+peak_of callers (IsLiteral value after) = (entry_of table.Literal).peak
+peak_of callers (IsWord word after) = (entry_of word).peak
+peak_of callers (IsDo body plus after) = (entry_of table.Do).peak
+peak_of callers (IsTurn body false after) = (entry_of table.Loop).peak
+peak_of callers (IsTurn body true after) = (entry_of table.PlusLoop).peak
+peak_of callers (IsLeave after) = (entry_of table.Leave).peak
+peak_of callers first = 0
 
 -- and the return cells, before its last instruction: DO has put its limit there
 abbrev pub back_of : First → ℕ
@@ -44,7 +49,7 @@ back_of first = 0
 abbrev pub StacksFit : SourceProgram → List ℕ → ℕ → ℕ → ℕ → Type 0
 StacksFit p input high return_high k =
     (j : ℕ) (s : State) → j < k → source_run p input j ≡ Goes s →
-    (length s.cells + peak_of (first s.work) ≤ high) × (return_height s + back_of (first s.work) ≤ return_high)
+    (length s.cells + peak_of s.callers (first s.work) ≤ high) × (return_height s + back_of (first s.work) ≤ return_high)
 
 -- DEPTH counts at most 31 data cells: its code reads a pointer of five bits
 abbrev pub DepthFits : First → List ℕ → Type 0

@@ -1,4 +1,4 @@
--- The source runs through a certified line: it lacks nothing, keeps both stacks within the limits, and has ended after its last item.
+-- The source runs through a certified line: it lacks nothing, and keeps both stacks within the limits of the chip.
 use Rattle.std.proofs.Common.{◌≡◌, ℕ, zero, suc, ◌+◌, ◌-◌, ◌<◌, ◌≤◌, nat_le, Bool, true, false, ◌&&◌, List, [], ◌∷◌, length, Option, Some, None, refl, sym, ap, ◌∙◌, subst, arith}
 use Rattle.std.specs.Prelude.{ℤ, pos, negsuc}
 use Rattle.std.proofs.lemmas.Bool.Decides.{nat_tests}
@@ -22,20 +22,15 @@ use Rattle.j1_workbench.proofs.Walking.{both}
 abbrev pub main_state : Nodes → List ℕ → World → State
 main_state nodes c w = record { work = before nodes []; entries = []; callers = []; cells = c; world = w }
 
-abbrev pub HasEnded : Outcome → Type 0
-HasEnded (Goes s) = ⊥
-HasEnded (Ends end world) = Unit {0}
-
 -- the stacks of a state and of its step fit the chip
 pub record FitsChip (s : State) : Type 0 where
-  pub data_cells : length s.cells + peak_of (first s.work) ≤ 33
+  pub data_cells : length s.cells + peak_of s.callers (first s.work) ≤ 33
   pub return_cells : return_height s + back_of (first s.work) ≤ 32
   pub depth : DepthFits (first s.work) s.cells
 
--- k word steps, of which at most `left` are left
-pub record GoesThrough (p : SourceProgram) (left k : ℕ) (s : State) : Type 0 where
+-- k word steps
+pub record GoesThrough (p : SourceProgram) (k : ℕ) (s : State) : Type 0 where
   pub lacks_nothing : lacks (steps p k s) ≡ false
-  pub over : left < k → HasEnded (steps p k s)
   pub fits : (j : ℕ) (state : State) → j < k → steps p j s ≡ Goes state → FitsChip state
 
 goes_is : (s after : State) → Goes s ≡ Goes after → s ≡ after
@@ -56,34 +51,23 @@ module _ (p : SourceProgram) (s : State) where
   unfolding steps
   steps_end k end world e = rw e refl
 
-  nothing_yet : (left : ℕ) → GoesThrough p left zero s
-  nothing_yet left = record { lacks_nothing = ap lacks steps_none; over = λ late. absurd (omega arith); fits = λ j state early e. absurd (omega arith) }
+  nothing_yet : GoesThrough p zero s
+  nothing_yet = record { lacks_nothing = ap lacks steps_none; fits = λ j state early e. absurd (omega arith) }
 
   fits_here : (k : ℕ) → FitsChip s → ((j : ℕ) (state : State) → j < k → steps p (suc j) s ≡ Goes state → FitsChip state) → (j : ℕ) (state : State) → j < suc k → steps p j s ≡ Goes state → FitsChip state
   fits_here k now later zero state early e = subst FitsChip (goes_is s state (sym steps_none ∙ e)) now
   fits_here k now later (suc j) state early e = later j state (omega arith) e
 
-  then_through : (left k : ℕ) (o : Outcome) → step p s ≡ o → lacks o ≡ false → FitsChip s → ((after : State) → o ≡ Goes after → GoesThrough p left k after) → GoesThrough p (suc left) (suc k) s
-  then_through left k (Goes after) e sound now later =
+  then_through : (k : ℕ) (o : Outcome) → step p s ≡ o → lacks o ≡ false → FitsChip s → ((after : State) → o ≡ Goes after → GoesThrough p k after) → GoesThrough p (suc k) s
+  then_through k (Goes after) e sound now later =
       let g = later after refl in
       record {
         lacks_nothing = ap lacks (steps_on k after e) ∙ g.lacks_nothing;
-        over = λ late. subst HasEnded (sym (steps_on k after e)) (g.over (omega arith));
         fits = fits_here k now (λ j state early same. g.fits j state early (sym (steps_on j after e) ∙ same));
       }
-  then_through left k (Ends end world) e sound now later =
+  then_through k (Ends end world) e sound now later =
       record {
         lacks_nothing = ap lacks (steps_end k end world e) ∙ sound;
-        over = λ late. subst HasEnded (sym (steps_end k end world e)) tt;
-        fits = fits_here k now (λ j state early same. let no : ⊥ = let both : Ends end world ≡ Goes state = sym (steps_end j end world e) ∙ same in cc in absurd no);
-      }
-
-  -- the last step
-  through_end : (left k : ℕ) (end : End) (world : World) → step p s ≡ Ends end world → lacks (Ends end world) ≡ false → FitsChip s → GoesThrough p left (suc k) s
-  through_end left k end world e sound now =
-      record {
-        lacks_nothing = ap lacks (steps_end k end world e) ∙ sound;
-        over = λ late. subst HasEnded (sym (steps_end k end world e)) tt;
         fits = fits_here k now (λ j state early same. let no : ⊥ = let both : Ends end world ≡ Goes state = sym (steps_end j end world e) ∙ same in cc in absurd no);
       }
 
@@ -149,19 +133,19 @@ unfolding step
 word_steps p word rest c w = refl
 
 module _ (needs : NeedsAreExact) (depths : WordsChangeDepths) (p : SourceProgram) (most : ℕ) (limit : most ≤ 33) where
-  pub goes_through : (nodes : Nodes) (k : ℕ) (c : List ℕ) (w : World) → IsLine nodes → walks most nodes (length c) ≡ true → GoesThrough p (line_length nodes) k (main_state nodes c w)
-  goes_through nodes zero c w line walked = nothing_yet p (main_state nodes c w) (line_length nodes)
+  pub goes_through : (nodes : Nodes) (k : ℕ) (c : List ℕ) (w : World) → IsLine nodes → walks most nodes (length c) ≡ true → GoesThrough p k (main_state nodes c w)
+  goes_through nodes zero c w line walked = nothing_yet p (main_state nodes c w)
   goes_through Empty (suc k) c w line walked =
       let few : length c ≤ 31 = grind (arith, nat_tests) in
-      through_end p (main_state Empty c w) 0 k (Halted 0) w (body_ends p c w) refl (record { data_cells = omega arith; return_cells = omega arith; depth = tt })
+      then_through p (main_state Empty c w) k (Ends (Halted 0) w) (body_ends p c w) refl (record { data_cells = omega arith; return_cells = omega arith; depth = tt }) (λ state e. cc)
   goes_through (Then (Literal value) rest) (suc k) c w line walked =
       let tests = both (nat_le (length c + 1) most) (walks most rest (length c + 1)) walked in
       let room : length c + 1 ≤ 33 = let h = tests.0 in grind (arith, nat_tests) in
       let more : suc (length c) ≡ length c + 1 = omega arith in
       let after = main_state rest (value ∷ c) w in
-      then_through p (main_state (Then (Literal value) rest) c w) (line_length rest) k (Goes after) (number_steps p value rest c w) refl
+      then_through p (main_state (Then (Literal value) rest) c w) k (Goes after) (number_steps p value rest c w) refl
       (record { data_cells = room; return_cells = omega arith; depth = tt })
-      (λ state e. subst (GoesThrough p (line_length rest) k) (goes_is after state e) (goes_through rest k (value ∷ c) w line.1 (ap (walks most rest) more ∙ tests.1)))
+      (λ state e. subst (GoesThrough p k) (goes_is after state e) (goes_through rest k (value ∷ c) w line.1 (ap (walks most rest) more ∙ tests.1)))
   goes_through (Then (Plain word) rest) (suc k) c w line walked =
       let entry = entry_of word in
       let tests = both (keeps_limits most entry (length c)) (goes_on entry.exit (walks most rest) (length c)) walked in
@@ -172,10 +156,10 @@ module _ (needs : NeedsAreExact) (depths : WordsChangeDepths) (p : SourceProgram
       let back : entry.back ≤ 31 = let h = limits.1 in grind (arith, nat_tests) in
       let done = main_state rest c w in
       let plain = inline_plain word line.0 in
-      then_through p (main_state (Then (Plain word) rest) c w) (line_length rest) k (word_step p word c [] done) (word_steps p word rest c w)
+      then_through p (main_state (Then (Plain word) rest) c w) k (word_step p word c [] done) (word_steps p word rest c w)
       ((needs p word c [] done plain).1 (need, inline_finds word line.0))
       (record { data_cells = peak; return_cells = omega arith; depth = depth_fits word rest c peak })
       (λ state e.
         let left = walked_on entry.exit (walks most rest) (length c) (length state.cells) (depths p word done state plain e) tests.1 in
-        subst (GoesThrough p (line_length rest) k) (state_is (meaning word c w) rest c w state (sym (inline_step p word c done line.0) ∙ e)) (goes_through rest k state.cells state.world line.1 left))
+        subst (GoesThrough p k) (state_is (meaning word c w) rest c w state (sym (inline_step p word c done line.0) ∙ e)) (goes_through rest k state.cells state.world line.1 left))
   goes_through (Then node rest) (suc k) c w line walked = absurd line

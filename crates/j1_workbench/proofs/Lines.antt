@@ -107,7 +107,7 @@ are_bytes (byte ∷ bytes) small =
     All-cons (λ byte. byte < 256) byte bytes low (are_bytes bytes tests.1)
 
 module _ (needs : NeedsAreExact) (depths : WordsChangeDepths) (p : SourceProgram) (input : List ℕ) (line : IsLine (body_of p p.main_body)) (certified : is_certified p ≡ true) where
-  through : (k : ℕ) → GoesThrough p (line_length (body_of p p.main_body)) k (first_state p input)
+  through : (k : ℕ) → GoesThrough p k (first_state p input)
   through k = goes_through needs depths p (most_cells p) (small_most p (most_cells p) refl) (body_of p p.main_body) k [] (first_world p input) line certified
 
   well : (k : ℕ) → GoesWell p input k
