@@ -6,6 +6,9 @@
 //! laws that it stands on.
 #![tactic(auto)]
 
+mod cells;
 mod laws;
+mod parts;
+mod sizes;
 
 pub use laws::{chips_agree, images_agree};
