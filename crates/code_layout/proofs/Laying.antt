@@ -30,7 +30,7 @@ next_is : (pc : ℕ) → pc + 1 < 8192 → following pc ≡ pc + 1
 next_is pc h = omega arith
 
 mutual
-  node_size_is : (node : Node) (place : ℕ → ℕ) (out_at at : ℕ) → length (node_cells place out_at at node) ≡ node_size node
+  pub node_size_is : (node : Node) (place : ℕ → ℕ) (out_at at : ℕ) → length (node_cells place out_at at node) ≡ node_size node
   node_size_is (Literal value) place out_at at = refl
   node_size_is (Plain word) place out_at at = refl
   node_size_is (Call d) place out_at at = refl

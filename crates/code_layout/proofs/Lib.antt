@@ -12,3 +12,5 @@ pub mod Laying
 pub mod Image
 pub mod Agreeing
 pub mod Chips
+pub mod Emitting
+pub mod Placing

@@ -3,3 +3,4 @@ pub mod Built
 pub mod Stacks
 pub mod Agreement
 pub mod Chip
+pub mod Places

@@ -7,8 +7,11 @@
 #![tactic(auto)]
 
 mod cells;
+mod emission;
 mod laws;
+mod layout;
 mod parts;
 mod sizes;
 
 pub use laws::{chips_agree, images_agree};
+pub use layout::lay_out;

@@ -1,0 +1,7 @@
+use Rattle.std.proofs.Common.{arith}
+use Rattle.std.proofs.lemmas.Grind.{common_steps}
+use Rattle.code_layout.proofs.Emitting.{some_else_cells}
+use Rattle.code_layout.proofs.emission.add_else.Goals as goal
+
+pub returns-else-is_empty : goal.returns-else-is_empty
+returns-else-is_empty c = grind (arith, common_steps, some_else_cells)
