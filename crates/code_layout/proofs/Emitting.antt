@@ -1,5 +1,5 @@
 -- Cells added to code.
-use Rattle.std.proofs.Common.{◌≡◌, ℕ, ◌+◌, ◌<◌, ◌≤◌, Bool, true, ◌&&◌, List, [], ◌∷◌, ◌++◌, length, drop, get_or, refl, sym, ap, ◌∙◌, subst, append_assoc, length-append, arith}
+use Rattle.std.proofs.Common.{◌≡◌, ℕ, ◌+◌, ◌<◌, ◌≤◌, true, ◌&&◌, List, [], ◌∷◌, ◌++◌, length, drop, get_or, refl, sym, ap, ◌∙◌, subst, append_assoc, length-append, arith}
 use Rattle.std.proofs.lemmas.List.{drop_more}
 use Rattle.forth_program.specs.declared.item.Item.{Item}
 use Rattle.forth_program.specs.Tree.{Nodes, If, While, Empty, Then}
@@ -70,7 +70,7 @@ module _ (place : ℕ → ℕ) (out_at : ℕ) where
       let room = now.2 in
       let few = now.3 in (
         ap (λ cells. cells ++ nodes_cells place out_at (length after) rest) added ∙ append_assoc code (node_cells place out_at (length code) (node_of item)) (nodes_cells place out_at (length after) rest)
-        ∙ ap (λ q. code ++ (node_cells place out_at (length code) (node_of item) ++ nodes_cells place out_at q rest)) longer ∙ now.0,
+            ∙ ap (λ q. code ++ (node_cells place out_at (length code) (node_of item) ++ nodes_cells place out_at q rest)) longer ∙ now.0,
         fit.1,
         omega (arith, longer, room),
         omega (arith, few),

@@ -1,10 +1,9 @@
 -- The places of definitions, and the image that they make.
-use Rattle.std.proofs.Common.{◌≡◌, ℕ, zero, suc, ◌+◌, ◌<◌, ◌≤◌, ◌&&◌, true, List, [], ◌∷◌, ◌++◌, length, drop, slice_index, refl, sym, ap, ◌∙◌, subst, append_assoc, length-append, arith}
+use Rattle.std.proofs.Common.{◌≡◌, ℕ, zero, suc, ◌+◌, ◌<◌, ◌≤◌, true, List, [], ◌∷◌, ◌++◌, length, drop, slice_index, refl, sym, ap, ◌∙◌, subst, append_assoc, length-append, arith}
 use Rattle.std.specs.Prelude.{slice_index_or}
 use Rattle.std.specs.List.{list_all}
 use Rattle.std.proofs.Math.Path.{fun_ext}
 use Rattle.std.proofs.lemmas.List.{drop_more}
-use Rattle.j1_table.specs.Image.{Content}
 use Rattle.forth_program.specs.Tree.{Nodes, Empty}
 use Rattle.forth_program.specs.Program.{SourceProgram}
 use Rattle.forth_program.specs.Form.{everywhere}
@@ -55,19 +54,14 @@ body_added place count whole code middle after bodies k body lt is added returne
     let longer : length after ≡ length code + size body + 1 = omega (arith, cell_more middle after return_cell returned, items_more place 0 (length code) body code middle added) in
     let fits = now.2 in (
       ap (λ xs. xs ++ bodies_cells place (length after) rest) (returned ∙ ap (λ xs. xs ++ return_cell ∷ []) added) ∙ append_assoc (code ++ cells) (return_cell ∷ []) (bodies_cells place (length after) rest)
-      ∙ append_assoc code cells (return_cell ∷ bodies_cells place (length after) rest) ∙ ap (λ q. code ++ (cells ++ return_cell ∷ bodies_cells place q rest)) longer ∙ now.0,
+          ∙ append_assoc code cells (return_cell ∷ bodies_cells place (length after) rest) ∙ ap (λ q. code ++ (cells ++ return_cell ∷ bodies_cells place q rest)) longer ∙ now.0,
       (both (everywhere (is_laid_out count) body) (list_all (everywhere (is_laid_out count)) rest) now.1).1,
       omega (arith, longer, fits),
     )
 
-abbrev pub content : List ℕ → List ℕ → ℕ → Content
-content cells bytes start = record { cells = cells; bytes = bytes; data_start = start }
-
-pub image_is : (p : SourceProgram) (places head code space : List ℕ) (main_at : ℕ) → IsBuilt p → places ≡ places_from 8 p.bodies → main_at ≡ slice_index places p.main_body → head ≡ header main_at →
-    code ≡ head ++ bodies_cells (λ d. slice_index places d) (length head) p.bodies → space ≡ p.first_space → content code space 8192 ≡ laid_out p
-image_is p places head code space main_at built places_are main_is head_is code_is space_is =
+-- the header with the code of all definitions
+pub cells_are : (p : SourceProgram) (places head code : List ℕ) (main_at : ℕ) → places ≡ places_from 8 p.bodies → main_at ≡ slice_index places p.main_body → head ≡ header main_at →
+    code ≡ head ++ bodies_cells (λ d. slice_index places d) (length head) p.bodies → code ≡ (laid_out p).cells
+cells_are p places head code main_at places_are main_is head_is code_is =
     let place : (λ (d : ℕ). slice_index places d) ≡ place_of p = ap (λ xs (d : ℕ). slice_index xs d) places_are ∙ fun_ext (place_is 8 p.bodies) in
-    let starts : 8192 ≡ p.data_start = sym built.data_start in
-    ap (λ xs. content xs space 8192)
-    (code_is ∙ ap (λ xs. xs ++ bodies_cells (λ d. slice_index places d) (length xs) p.bodies) (head_is ∙ ap header main_is) ∙ ap (λ (f : ℕ → ℕ). header (f p.main_body) ++ bodies_cells f 8 p.bodies) place)
-    ∙ ap (λ xs. content (laid_out p).cells xs 8192) space_is ∙ ap (content (laid_out p).cells p.first_space) starts
+    code_is ∙ ap (λ xs. xs ++ bodies_cells (λ d. slice_index places d) (length xs) p.bodies) (head_is ∙ ap header main_is) ∙ ap (λ (f : ℕ → ℕ). header (f p.main_body) ++ bodies_cells f 8 p.bodies) place

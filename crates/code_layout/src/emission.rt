@@ -1,12 +1,15 @@
 // The cells of items, at the end of the code.
-ghost use Rattle.std.specs.Prelude.{◌≡◌, ℕ, ◌+◌, ◌<◌, ◌≤◌, ◌++◌, length, slice_index, EachIndex, OnOk, true};
+ghost use Rattle.std.specs.Prelude.{◌≡◌, ℕ, ◌+◌, ◌≤◌, ◌++◌, length, slice_index, OnOk, true};
 ghost use Rattle.forth_program.specs.Tree.{If, Until, While, Do};
 ghost use Rattle.forth_program.specs.Form.{everywhere, inside};
 ghost use Rattle.forth_program.specs.ItemTrees.{node_of, tree_of};
 ghost use Rattle.code_layout.specs.Built.{is_laid_out};
 ghost use Rattle.code_layout.specs.Layout.{node_size, size, else_cells, node_cells, nodes_cells};
+ghost use Rattle.code_layout.specs.Places.{ArePlaces};
 
-use crate::cells::{add_branch, add_call, add_do, add_jump, add_number, add_out, add_turn, add_return};
+use crate::cells::{
+    add_branch, add_call, add_do, add_jump, add_number, add_out, add_return, add_turn,
+};
 use crate::parts::{do_has_parts, if_has_parts, until_has_parts, while_has_parts};
 use crate::sizes::{else_size, items_size, turn_size};
 use forth_program::{Item, Items};
@@ -25,8 +28,14 @@ fn add_else(code: &mut Vec<u16>, second: &Items, target: u16) -> Result<(), Allo
 }
 
 #[cycle(emission)]
-fn add_if(code: &mut Vec<u16>, first: &Items, second: &Items, places: &[u16], out_at: u16) -> Result<(), AllocError>
-    requires places { EachIndex places.now (λ k. slice_index places.now k < 8192) }
+fn add_if(
+    code: &mut Vec<u16>,
+    first: &Items,
+    second: &Items,
+    places: &[u16],
+    out_at: u16,
+) -> Result<(), AllocError>
+    requires places { ArePlaces places.now }
     requires first { everywhere (is_laid_out (length places.now)) (tree_of first.now) ≡ true }
     requires second { everywhere (is_laid_out (length places.now)) (tree_of second.now) ≡ true }
     requires room { length code.old.items + node_size (If (tree_of first.now) (tree_of second.now)) ≤ 4096 }
@@ -41,8 +50,13 @@ fn add_if(code: &mut Vec<u16>, first: &Items, second: &Items, places: &[u16], ou
 }
 
 #[cycle(emission)]
-fn add_until(code: &mut Vec<u16>, body: &Items, places: &[u16], out_at: u16) -> Result<(), AllocError>
-    requires places { EachIndex places.now (λ k. slice_index places.now k < 8192) }
+fn add_until(
+    code: &mut Vec<u16>,
+    body: &Items,
+    places: &[u16],
+    out_at: u16,
+) -> Result<(), AllocError>
+    requires places { ArePlaces places.now }
     requires laid_out { everywhere (is_laid_out (length places.now)) (tree_of body.now) ≡ true }
     requires room { length code.old.items + node_size (Until (tree_of body.now)) ≤ 4096 }
     ensures { OnOk result (code.new.items ≡ code.old.items ++ node_cells (λ d. slice_index places.now d) out_at (length code.old.items) (Until (tree_of body.now))) }
@@ -53,8 +67,14 @@ fn add_until(code: &mut Vec<u16>, body: &Items, places: &[u16], out_at: u16) -> 
 }
 
 #[cycle(emission)]
-fn add_while(code: &mut Vec<u16>, test: &Items, body: &Items, places: &[u16], out_at: u16) -> Result<(), AllocError>
-    requires places { EachIndex places.now (λ k. slice_index places.now k < 8192) }
+fn add_while(
+    code: &mut Vec<u16>,
+    test: &Items,
+    body: &Items,
+    places: &[u16],
+    out_at: u16,
+) -> Result<(), AllocError>
+    requires places { ArePlaces places.now }
     requires test { everywhere (is_laid_out (length places.now)) (tree_of test.now) ≡ true }
     requires body { everywhere (is_laid_out (length places.now)) (tree_of body.now) ≡ true }
     requires room { length code.old.items + node_size (While (tree_of test.now) (tree_of body.now)) ≤ 4096 }
@@ -70,23 +90,28 @@ fn add_while(code: &mut Vec<u16>, test: &Items, body: &Items, places: &[u16], ou
 
 // A LEAVE in the body leads to where this loop is dropped.
 #[cycle(emission)]
-fn add_do_loop(code: &mut Vec<u16>, body: &Items, plus: bool, places: &[u16]) -> Result<(), AllocError>
-    requires places { EachIndex places.now (λ k. slice_index places.now k < 8192) }
+fn add_do_loop(
+    code: &mut Vec<u16>,
+    body: &Items,
+    plus: bool,
+    places: &[u16],
+) -> Result<(), AllocError>
+    requires places { ArePlaces places.now }
     requires laid_out { everywhere (is_laid_out (length places.now)) (tree_of body.now) ≡ true }
     requires room { length code.old.items + node_size (Do (tree_of body.now) plus) ≤ 4096 }
     ensures { (out_at : ℕ) → OnOk result (code.new.items ≡ code.old.items ++ node_cells (λ d. slice_index places.now d) out_at (length code.old.items) (Do (tree_of body.now) plus)) }
 {
     let body_at = code.len() as u16 + 8;
-    let out_at = body_at + items_size(body) + turn_size(plus);
+    let drop_at = body_at + items_size(body) + turn_size(plus);
     add_do(code)?;
-    add_items(code, body, places, out_at)?;
-    add_turn(code, plus, body_at, out_at)?;
+    add_items(code, body, places, drop_at)?;
+    add_turn(code, plus, body_at, drop_at)?;
     add_out(code)
 }
 
 #[cycle(emission)]
 fn add_item(code: &mut Vec<u16>, item: &Item, places: &[u16], out_at: u16) -> Result<(), AllocError>
-    requires places { EachIndex places.now (λ k. slice_index places.now k < 8192) }
+    requires places { ArePlaces places.now }
     requires item { is_laid_out (length places.now) (node_of item.now) ≡ true }
     requires parts { inside (is_laid_out (length places.now)) (node_of item.now) ≡ true }
     requires room { length code.old.items + node_size (node_of item.now) ≤ 4096 }
@@ -122,8 +147,13 @@ fn add_item(code: &mut Vec<u16>, item: &Item, places: &[u16], out_at: u16) -> Re
 /// The cells of items one after the other, at the end of the code. `places` says where each definition begins, and `out_at` where
 /// the innermost loop is dropped.
 #[cycle(emission)]
-pub(crate) fn add_items(code: &mut Vec<u16>, items: &Items, places: &[u16], out_at: u16) -> Result<(), AllocError>
-    requires places { EachIndex places.now (λ k. slice_index places.now k < 8192) }
+pub(crate) fn add_items(
+    code: &mut Vec<u16>,
+    items: &Items,
+    places: &[u16],
+    out_at: u16,
+) -> Result<(), AllocError>
+    requires places { ArePlaces places.now }
     requires laid_out { everywhere (is_laid_out (length places.now)) (tree_of items.now) ≡ true }
     requires room { length code.old.items + size (tree_of items.now) ≤ 4096 }
     ensures { OnOk result (code.new.items ≡ code.old.items ++ nodes_cells (λ d. slice_index places.now d) out_at (length code.old.items) (tree_of items.now)) }

@@ -1,9 +1,10 @@
-//! The image of a program whose definitions have structures: its cells, and the law that the open machine does on it what the
-//! source means. There is no code yet.
+//! The image of a program whose definitions have structures: its cells, the code that lays them out, and the law that the open
+//! machine does on it what the source means.
 //!
-//! `Layout` in `specs/` gives the image, `Built` says which programs have one so far, and `Agreement` what the machine and the
-//! source have to do with each other. The law `images_agree` is a function that only calls the
-//! laws that it stands on.
+//! `Layout` in `specs/` gives the image, and `lay_out` makes it: the sizes of items give where each definition begins, and then
+//! the cells of each item are added at the end of the code. `Built` says which programs have an image so far, `Agreement`
+//! what the open machine and the source have to do with each other, and `Chip` what follows on the chip. The laws are functions
+//! that only call the laws that they stand on.
 #![tactic(auto)]
 
 mod cells;

@@ -1,4 +1,4 @@
-// The trees of structures, by those of their parts.
+// The trees of structures, by those of their parts. These functions do nothing, and are called for what they ensure.
 ghost use Rattle.std.specs.Prelude.{◌≡◌};
 ghost use Rattle.forth_program.specs.declared.item.Item as item;
 ghost use Rattle.forth_program.specs.Tree as tree;

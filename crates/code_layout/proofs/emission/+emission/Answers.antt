@@ -1,6 +1,6 @@
-use Rattle.std.proofs.Common.{◌≡◌, ℕ, ◌+◌, ◌≤◌, ◌++◌, ◌∷◌, [], length, slice_index, OnOk, sym, ap, ◌∙◌, subst, arith, rules}
+use Rattle.std.proofs.Common.{◌≡◌, ℕ, ◌+◌, ◌≤◌, ◌++◌, length, slice_index, OnOk, sym, subst, arith, rules}
 use Rattle.forth_program.specs.ItemTrees.{tree_of}
-use Rattle.code_layout.specs.Layout.{branch_to, else_place, else_cells, while_place, size, node_cells}
+use Rattle.code_layout.specs.Layout.{size, node_cells}
 use Rattle.code_layout.proofs.Emitting.{cell_more, items_more, else_more, if_added, while_added, one_added}
 use Rattle.code_layout.proofs.emission.+emission.Goals as goal
 

@@ -1,5 +1,5 @@
 use Rattle.std.proofs.Common.{◌≡◌, ◌+◌, ◌≤◌, drop}
-use Rattle.forth_program.specs.ItemTrees.{nodes_of, items_of, tree_of}
+use Rattle.forth_program.specs.ItemTrees.{nodes_of, tree_of}
 use Rattle.code_layout.specs.Layout.{size}
 use Rattle.code_layout.proofs.sizes.+sizes.Given as goal
 

@@ -1,11 +1,9 @@
-use Rattle.std.proofs.Common.{◌≡◌, ◌<◌, true, List, ℕ, length, slice_index, IfOk, sym, ap, ◌∙◌, subst, arith}
+use Rattle.std.proofs.Common.{◌≡◌, ◌<◌, true, length, slice_index, sym, ap, ◌∙◌, subst, arith}
 use Rattle.std.specs.List.{list_all}
 use Rattle.forth_program.specs.Form.{everywhere}
-use Rattle.j1_table.specs.Image.{Content}
 use Rattle.code_layout.specs.Built.{is_laid_out}
-use Rattle.code_layout.specs.Layout.{laid_out}
-use Rattle.code_layout.proofs.Placing.{room, places_length, places_low, image_is}
-use Rattle.code_layout.proofs.layout.lay_out.Goals as goal
+use Rattle.code_layout.proofs.Placing.{room, places_length, places_low, cells_are}
+use Rattle.code_layout.proofs.layout.code_of.Goals as goal
 
 pub places_of-requires : goal.places_of-requires
 places_of-requires c = room c.args.program.now c.requires
@@ -32,16 +30,7 @@ add_bodies-requires-clause-laid_out c =
 pub add_bodies-requires-clause-room : goal.add_bodies-requires-clause-room
 add_bodies-requires-clause-room c = omega (arith, ap length c.in_ok-code.ensures, room c.args.program.now c.requires)
 
-pub new-requires-clause-code : goal.new-requires-clause-code
-new-requires-clause-code c =
-    let p = c.args.program.now in
-    let image = image_is p c.as_slice-places.result.now c.in_ok-code.code.items c.as_slice.result.now c.space.result.now c.place_of.result c.requires (c.as_slice-places.ensures.value ∙ c.in_ok-held.ensures) (c.place_of.ensures ∙ ap (λ d. slice_index c.as_slice-places.result.now d) c.main.ensures.value) c.in_ok-code.ensures (c.as_slice.ensures.value ∙ c.in_ok-add_bodies.ensures) c.space.ensures.value in
-    let size = ap (λ (x : Content). length x.cells) image in
-    let fits = c.requires.code_fits in
-    omega (arith, size, fits)
-
 pub returns : goal.returns
 returns c =
-    let p = c.args.program.now in
-    let image = image_is p c.as_slice-places.result.now c.in_ok-code.code.items c.as_slice.result.now c.space.result.now c.place_of.result c.requires (c.as_slice-places.ensures.value ∙ c.in_ok-held.ensures) (c.place_of.ensures ∙ ap (λ d. slice_index c.as_slice-places.result.now d) c.main.ensures.value) c.in_ok-code.ensures (c.as_slice.ensures.value ∙ c.in_ok-add_bodies.ensures) c.space.ensures.value in
-    subst (λ (x : Content). IfOk c.new.result (λ image. image ≡ x)) image c.new.ensures
+    let main_is = c.place_of.ensures ∙ ap (λ d. slice_index c.as_slice-places.result.now d) c.main.ensures.value in
+    cells_are c.args.program.now c.as_slice-places.result.now c.in_ok-code.code.items c.add_bodies.new.code.items c.place_of.result (c.as_slice-places.ensures.value ∙ c.in_ok-held.ensures) main_is c.in_ok-code.ensures c.in_ok-add_bodies.ensures
