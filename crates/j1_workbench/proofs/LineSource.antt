@@ -1,5 +1,5 @@
 -- The source runs through a certified line: it lacks nothing, and keeps both stacks within the limits of the chip.
-use Rattle.std.proofs.Common.{◌≡◌, ℕ, zero, suc, ◌+◌, ◌-◌, ◌<◌, ◌≤◌, nat_le, Bool, true, false, ◌&&◌, List, [], ◌∷◌, length, Option, Some, None, refl, sym, ap, ◌∙◌, subst, arith}
+use Rattle.std.proofs.Common.{◌≡◌, ℕ, zero, suc, ◌+◌, ◌<◌, ◌≤◌, nat_le, Bool, true, false, ◌&&◌, List, [], ◌∷◌, length, Option, Some, None, refl, sym, ap, ◌∙◌, subst, arith}
 use Rattle.std.specs.Prelude.{ℤ, pos, negsuc}
 use Rattle.std.proofs.lemmas.Bool.Decides.{nat_tests}
 use Rattle.word_table.specs.declared.word.Word.{Word}
@@ -12,7 +12,7 @@ use Rattle.forth_program.specs.Program.{SourceProgram}
 use Rattle.forth_program.specs.Meaning.{meaning}
 use Rattle.forth_program.specs.Step.{before, first, on_cells, word_step, step, IsWord}
 use Rattle.forth_program.specs.Run.{steps}
-use Rattle.control_flow.specs.SourceLaw.{IsLine, line_length}
+use Rattle.control_flow.specs.SourceLaw.{IsLine}
 use Rattle.word_laws.specs.Words.{is_inline, stands_plain, finds_entries, lacks, NeedsAreExact, ChangesBy, LeavesBy, WordsChangeDepths}
 use Rattle.code_layout.specs.Stacks.{return_height, peak_of, back_of, DepthFits}
 use Rattle.j1_workbench.specs.Certificate.{changed, keeps_limits, goes_on, walks}
@@ -160,6 +160,6 @@ module _ (needs : NeedsAreExact) (depths : WordsChangeDepths) (p : SourceProgram
       ((needs p word c [] done plain).1 (need, inline_finds word line.0))
       (record { data_cells = peak; return_cells = omega arith; depth = depth_fits word rest c peak })
       (λ state e.
-        let left = walked_on entry.exit (walks most rest) (length c) (length state.cells) (depths p word done state plain e) tests.1 in
-        subst (GoesThrough p k) (state_is (meaning word c w) rest c w state (sym (inline_step p word c done line.0) ∙ e)) (goes_through rest k state.cells state.world line.1 left))
+      let left = walked_on entry.exit (walks most rest) (length c) (length state.cells) (depths p word done state plain e) tests.1 in
+      subst (GoesThrough p k) (state_is (meaning word c w) rest c w state (sym (inline_step p word c done line.0) ∙ e)) (goes_through rest k state.cells state.world line.1 left))
   goes_through (Then node rest) (suc k) c w line walked = absurd line

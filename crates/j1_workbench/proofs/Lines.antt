@@ -1,14 +1,12 @@
 -- What a program of one straight line has, by what its text has.
-use Rattle.std.proofs.Common.{◌≡◌, ℕ, ◌+◌, ◌-◌, ◌/◌, ◌≤◌, ◌<◌, nat_le, nat_lt, Bool, true, false, ◌&&◌, IsTrue, List, [], ◌∷◌, ◌++◌, length, replicate, get_or, refl, sym, ap, ◌∙◌, subst, length-append, arith}
+use Rattle.std.proofs.Common.{◌≡◌, ℕ, ◌+◌, ◌-◌, ◌≤◌, ◌<◌, nat_le, nat_lt, Bool, true, false, ◌&&◌, IsTrue, List, [], ◌∷◌, length, refl, sym, ap, subst, length-append, arith}
 use Rattle.std.specs.Prelude.{if◌then◌else◌}
 use Rattle.std.specs.List.{list_all}
 use Rattle.std.proofs.lemmas.Bool.Decides.{nat_tests}
-use Rattle.std.proofs.lemmas.List.{length-replicate}
 use Rattle.std.proofs.lemmas.List.Elements.{All-cons}
 use Rattle.word_table.specs.declared.word.Word.{Word}
 use Rattle.word_table.specs.declared.word.Word.TheVariants.{Dup}
 use Rattle.word_table.specs.Table.{entry_of, cells_of}
-use Rattle.cell_math.specs.Bytes.{filled}
 use Rattle.forth_program.specs.Tree.{Nodes, Literal, Plain, Empty, Then}
 use Rattle.forth_program.specs.Program.{SourceProgram, body_of}
 use Rattle.forth_program.specs.Form.{everywhere, leaves_fit}
@@ -17,7 +15,7 @@ use Rattle.control_flow.specs.SourceText.{fixed_space, program_with}
 use Rattle.control_flow.specs.SourceLaw.{IsLine, line_weight, line_length, IsOneLine}
 use Rattle.word_laws.specs.Numbers.{number_cells}
 use Rattle.word_laws.specs.Words.{stands_plain, NeedsAreExact, WordsChangeDepths}
-use Rattle.code_layout.specs.Layout.{nodes_cells, place_of, laid_out}
+use Rattle.code_layout.specs.Layout.{nodes_cells, place_of}
 use Rattle.code_layout.specs.Built.{is_laid_out, tokens, IsBuilt}
 use Rattle.code_layout.specs.Stacks.{StacksFit}
 use Rattle.code_layout.specs.Agreement.{AreBytes, GoesWell}

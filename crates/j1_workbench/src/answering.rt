@@ -13,6 +13,7 @@ use crate::running::run_image;
 use crate::source::{MOST_SOURCE, judge};
 use crate::status::Status;
 use crate::words::{Command, command_of};
+use code_layout::lay_out;
 use outside_io::{FileFault, Folder, Sink, Source};
 use std::alloc::Global;
 
@@ -48,7 +49,10 @@ fn run_text<C: Source, O: Sink>(
         Ok(program) => program,
         Err(status) => return status,
     };
-    Status::OutOfMemory
+    match lay_out(alloc, &program) {
+        Ok(image) => run_image(alloc, &image, steps, console, out),
+        Err(_) => Status::OutOfMemory,
+    }
 }
 
 // How many instructions a run may make.
