@@ -1,7 +1,7 @@
 // Single cells, and the cells of loops.
 ghost use Rattle.std.specs.Prelude.{◌≡◌, ◌<◌, ◌++◌, ◌∷◌, [], OnOk, true, false};
 ghost use Rattle.word_laws.specs.Numbers.{number_cells};
-ghost use Rattle.code_layout.specs.Layout.{jump_to, branch_to, call_to, return_cell, do_cells as cells_of_do, turn_cells, out_cells};
+ghost use Rattle.code_layout.specs.Layout.{jump_to, branch_to, call_to, return_cell, do_cells as cells_of_do, plus_loop_cells, turn_cells, out_cells};
 
 use std::alloc::AllocError;
 
@@ -89,9 +89,9 @@ fn add_loop(code: &mut Vec<u16>, body_at: u16, out_at: u16) -> Result<(), AllocE
 }
 
 // +LOOP: R> OVER OVER XOR >R SWAP OVER + SWAP OVER XOR R> AND 0< SWAP >R, and then it goes on where 0 is left.
-fn add_plus_loop(code: &mut Vec<u16>, body_at: u16, out_at: u16) -> Result<(), AllocError>
+fn add_plus_loop(code: &mut Vec<u16>, body_at: u16) -> Result<(), AllocError>
     requires { body_at < 8192 }
-    ensures { OnOk result (code.new.items ≡ code.old.items ++ turn_cells true body_at out_at) }
+    ensures { OnOk result (code.new.items ≡ code.old.items ++ plus_loop_cells ++ branch_to body_at ∷ []) }
 {
     code.extend_from_slice(&[
         0x6B8D,
@@ -127,7 +127,7 @@ pub(crate) fn add_turn(
     ensures { OnOk result (code.new.items ≡ code.old.items ++ turn_cells plus body_at out_at) }
 {
     if plus {
-        add_plus_loop(code, body_at, out_at)
+        add_plus_loop(code, body_at)
     } else {
         add_loop(code, body_at, out_at)
     }
