@@ -14,11 +14,13 @@ use Rattle.word_laws.specs.Bounds.{StaysWithin}
 use Rattle.word_laws.specs.Standing.{machine_end}
 use Rattle.word_laws.specs.Words.{lacks}
 use Rattle.word_laws.specs.Bounds.{BoundsFitRings, BoundsJoin, EndsStay}
+use Rattle.forth_program.specs.Tree.{Nodes}
 use Rattle.code_layout.specs.Layout.{laid_out}
+use Rattle.code_layout.specs.Library.{IsLibrary, LibraryMeans}
 use Rattle.code_layout.specs.Built.{IsBuilt}
 use Rattle.code_layout.specs.Stacks.{StacksFit}
 use Rattle.code_layout.specs.Agreement.{AreBytes, code_of, GoesWell, stop_of, DoesAsMuch, word_steps, DoesNoMore, ImagesAgree}
-use Rattle.code_layout.specs.Chip.{AgreesOnChip}
+use Rattle.code_layout.specs.Chip.{DepthStaysWithin, AgreesOnChip}
 use Rattle.code_layout.proofs.Image.{filled_length}
 use Rattle.code_layout.proofs.Agreeing.{never_missing, stop_at}
 
@@ -32,39 +34,40 @@ after_each P data_start zero v before = before.0
 after_each P data_start (suc n) v before = after_each P data_start n (advanced v.stop open_storage data_start v) before.1
 
 module _ (agree : ImagesAgree) (rings : RunsDoTheSame) (bounds_fit : BoundsFitRings) (bounds_join : BoundsJoin) (ends_stay : EndsStay) (grows : OnlyGrows open_storage)
-    (p : SourceProgram) (input : List ℕ) (built : IsBuilt p) (space : AreBytes p.first_space) (bytes : AreBytes input) (well : (k : ℕ) → GoesWell p input k) (fit : (k : ℕ) → StacksFit p input 33 32 k) where
+    (library : List Nodes) (p : SourceProgram) (input : List ℕ) (form : IsLibrary library) (means : LibraryMeans library) (built : IsBuilt library p) (space : AreBytes p.first_space) (bytes : AreBytes input) (well : (k : ℕ) → GoesWell p input k) (fit : (k : ℕ) → StacksFit p input 33 32 k) where
   abbrev start : OpenConfiguration
-  start = begun (open_start (laid_out p)) input
+  start = begun (open_start (laid_out library p)) input
 
-  much : (k : ℕ) → DoesAsMuch p input k
-  much k = agree.as_much p input k built space bytes (well k)
+  much : (k : ℕ) → DoesAsMuch library p input k
+  much k = agree.as_much library p input k form means built space bytes (well k)
 
-  more : (n : ℕ) → DoesNoMore p input n
-  more n = agree.no_more p input n built space bytes (well (word_steps p n))
+  more : (n : ℕ) → DoesNoMore library p input n
+  more n = agree.no_more library p input n form means built space bytes (well (word_steps p n))
 
-  always_by : (n : ℕ) (m : DoesAsMuch p input (word_steps p n)) (o : Outcome) → source_run p input (word_steps p n) ≡ o → BeforeEach (StaysWithin 0 33 0 32) p.data_start (suc n) start
-  always_by n m (Goes s) e =
-      let lt : n < m.count = m.far_enough n (omega arith) (ap end_of e) in
-      fewer (StaysWithin 0 33 0 32) p.data_start (suc n) m.count start (omega (arith, lt)) (m.stacks_before 33 32 (fit (word_steps p n)))
-  always_by n m (Ends end world) e =
-      let w = well (word_steps p n) in
-      let stop = stop_at end world (sym (ap lacks e) ∙ w.lacks_nothing) in
-      let stopped : (open_run (laid_out p) input m.count).stop ≡ Some stop.0 = m.shows.stop_is ∙ ap stop_of e ∙ stop.1 in
-      let stay = ends_stay 0 33 0 32 (suc n) p.data_start (open_run (laid_out p) input m.count) stop.0 stopped in
-      fewer (StaysWithin 0 33 0 32) p.data_start (suc n) (m.count + suc n) start (omega arith)
-      (bounds_join 0 33 0 32 m.count (suc n) p.data_start start (m.stacks_before 33 32 (fit (word_steps p n))) (stay.1 (m.stacks_at_end 33 32 end (fit (word_steps p n)) (ap end_of e))))
+  module _ (high return_high : ℕ) (fits : (k : ℕ) → StacksFit p input high return_high k) where
+    always_by : (n : ℕ) (m : DoesAsMuch library p input (word_steps p n)) (o : Outcome) → source_run p input (word_steps p n) ≡ o → BeforeEach (StaysWithin 0 high 0 return_high) p.data_start (suc n) start
+    always_by n m (Goes s) e =
+        let lt : n < m.count = m.far_enough n (omega arith) (ap end_of e) in
+        fewer (StaysWithin 0 high 0 return_high) p.data_start (suc n) m.count start (omega (arith, lt)) (m.stacks_before high return_high (fits (word_steps p n)))
+    always_by n m (Ends end world) e =
+        let w = well (word_steps p n) in
+        let stop = stop_at end world (sym (ap lacks e) ∙ w.lacks_nothing) in
+        let stopped : (open_run (laid_out library p) input m.count).stop ≡ Some stop.0 = m.shows.stop_is ∙ ap stop_of e ∙ stop.1 in
+        let stay = ends_stay 0 high 0 return_high (suc n) p.data_start (open_run (laid_out library p) input m.count) stop.0 stopped in
+        fewer (StaysWithin 0 high 0 return_high) p.data_start (suc n) (m.count + suc n) start (omega arith)
+        (bounds_join 0 high 0 return_high m.count (suc n) p.data_start start (m.stacks_before high return_high (fits (word_steps p n))) (stay.1 (m.stacks_at_end high return_high end (fits (word_steps p n)) (ap end_of e))))
 
-  always : (n : ℕ) → BeforeEach (StaysWithin 0 33 0 32) p.data_start (suc n) start
-  always n = always_by n (much (word_steps p n)) (source_run p input (word_steps p n)) refl
+    always : (n : ℕ) → BeforeEach (StaysWithin 0 high 0 return_high) p.data_start (suc n) start
+    always n = always_by n (much (word_steps p n)) (source_run p input (word_steps p n)) refl
 
-  knows : (n : ℕ) → (open_run (laid_out p) input n).stop ≢ Some Missing
+  knows : (n : ℕ) → (open_run (laid_out library p) input n).stop ≢ Some Missing
   knows n e = let ends = (more n).ends Missing e in never_missing (Ends ends.0 (world_of (source_run p input 0))) ends.2
 
-  alike : (n : ℕ) → Agrees (open_run (laid_out p) input n) (round_run (laid_out p) input n)
-  alike n = rings (laid_out p) input n (bounds_fit 0 33 0 32 n p.data_start start (omega arith) (omega arith) (fewer (StaysWithin 0 33 0 32) p.data_start n (suc n) start (omega arith) (always n))) (knows n)
+  alike : (n : ℕ) → Agrees (open_run (laid_out library p) input n) (round_run (laid_out library p) input n)
+  alike n = rings (laid_out library p) input n (bounds_fit 0 33 0 32 n p.data_start start (omega arith) (omega arith) (fewer (StaysWithin 0 33 0 32) p.data_start n (suc n) start (omega arith) (always 33 32 fit n))) (knows n)
 
   -- a machine that has ended is where the source has ended
-  same_end : (n k : ℕ) (stop : Stop) (end : End) → (open_run (laid_out p) input n).stop ≡ Some stop → end_of (source_run p input k) ≡ Some end → open_run (laid_out p) input n ≡ open_run (laid_out p) input (much k).count
+  same_end : (n k : ℕ) (stop : Stop) (end : End) → (open_run (laid_out library p) input n).stop ≡ Some stop → end_of (source_run p input k) ≡ Some end → open_run (laid_out library p) input n ≡ open_run (laid_out library p) input (much k).count
   same_end n k stop end e f =
       let m = much k in
       let stop' = stop_now k end (source_run p input k) refl f in
@@ -80,10 +83,15 @@ module _ (agree : ImagesAgree) (rings : RunsDoTheSame) (bounds_fit : BoundsFitRi
   stop_of_end (Goes s) end sound e = cc
   stop_of_end (Ends end' world) end sound e = let s = stop_at end' world sound in let same : end' ≡ end = cc in (s.0, s.1, ap machine_end (sym same) ∙ s.1)
 
-  code_is : length (code_of p) ≡ p.data_start / 2
-  code_is = let few = built.code_fits in let starts = built.data_start in filled_length (p.data_start / 2) (laid_out p).cells (omega (arith, few, starts))
+  code_is : length (code_of library p) ≡ p.data_start / 2
+  code_is = filled_length (p.data_start / 2) (laid_out library p).cells built.code_fits
 
-  pub chip_agrees : AgreesOnChip p input
+  holds : (high return_high : ℕ) → ((k : ℕ) → StacksFit p input high return_high k) → (n : ℕ) → DepthStaysWithin high (round_run (laid_out library p) input n).data_depth × DepthStaysWithin return_high (round_run (laid_out library p) input n).return_depth
+  holds high return_high fits n =
+      let w = after_each (StaysWithin 0 high 0 return_high) p.data_start n start (always high return_high fits n) in
+      ((w.depth, sym (alike n).data_depth ∙ w.depth_is, w.at_most), (w.return_depth, sym (alike n).return_depth ∙ w.return_depth_is, w.return_at_most))
+
+  pub chip_agrees : AgreesOnChip library p input
   chip_agrees = record {
     prints_no_more = λ n. subst (λ printed. IsPrefixOf printed (world_of (source_run p input (word_steps p n))).printed) (alike n).printed (more n).prints;
     ends_no_sooner = λ n stop e. (more n).ends stop ((alike n).stop ∙ e);
@@ -103,8 +111,9 @@ module _ (agree : ImagesAgree) (rings : RunsDoTheSame) (bounds_fit : BoundsFitRi
         let same = same_end n k stop end (a.stop ∙ e) f in (
           sym a.printed ∙ ap (λ v. v.printed) same ∙ m.shows.printed,
           sym a.input ∙ ap (λ v. v.input) same ∙ m.shows.input,
-          ap (drop (p.data_start / 2)) (sym a.core.memory ∙ ap (λ v. v.core.memory) same ∙ m.shows.memory) ∙ ap (λ i. drop i (code_of p ++ (world_of (source_run p input k)).space)) (sym code_is) ∙ drop-append_seam (code_of p) (world_of (source_run p input k)).space,
+          ap (drop (p.data_start / 2)) (sym a.core.memory ∙ ap (λ v. v.core.memory) same ∙ m.shows.memory) ∙ ap (λ i. drop i (code_of library p ++ (world_of (source_run p input k)).space)) (sym code_is) ∙ drop-append_seam (code_of library p) (world_of (source_run p input k)).space,
         );
-    data_stack_holds = λ n. let w = after_each (StaysWithin 0 33 0 32) p.data_start n start (always n) in (w.depth, sym (alike n).data_depth ∙ w.depth_is, w.at_most);
-    return_stack_holds = λ n. let w = after_each (StaysWithin 0 33 0 32) p.data_start n start (always n) in (w.return_depth, sym (alike n).return_depth ∙ w.return_depth_is, w.return_at_most);
+    data_stack_holds = λ n. (holds 33 32 fit n).0;
+    return_stack_holds = λ n. (holds 33 32 fit n).1;
+    stacks_hold = holds;
   }

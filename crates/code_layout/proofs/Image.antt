@@ -1,5 +1,5 @@
 -- The image of a program: its code, and where the machine and the source begin.
-use Rattle.std.proofs.Common.{◌≡◌, ℕ, zero, suc, ◌+◌, ◌-◌, ◌/◌, ◌<◌, ◌≤◌, true, false, List, [], ◌∷◌, ◌++◌, length, replicate, slice_index, None, refl, sym, ap, ◌∙◌, length-append, arith}
+use Rattle.std.proofs.Common.{◌≡◌, ℕ, zero, suc, ◌+◌, ◌-◌, ◌/◌, ◌<◌, ◌≤◌, Bool, true, false, List, [], ◌∷◌, ◌++◌, length, replicate, slice_index, Some, None, refl, sym, ap, ◌∙◌, length-append, arith}
 use Rattle.std.specs.Prelude.{slice_index_or}
 use Rattle.std.specs.List.{list_all}
 use Rattle.std.proofs.lemmas.List.{length-replicate}
@@ -9,21 +9,26 @@ use Rattle.j1_table.specs.declared.instr.Instr.TheVariants.{Call as CallTo}
 use Rattle.j1_table.specs.Instruction.{decoded}
 use Rattle.j1_simulator.specs.OpenMachine.{blank}
 use Rattle.j1_simulator.specs.Run.{begun, open_start}
-use Rattle.forth_program.specs.Tree.{Nodes, Empty}
+use Rattle.forth_program.specs.Tree.{Node, Nodes, Empty}
 use Rattle.forth_program.specs.Program.{SourceProgram}
-use Rattle.forth_program.specs.Form.{everywhere, leaves_fit}
+use Rattle.forth_program.specs.Form.{IsDataStart, everywhere, leaves_fit}
 use Rattle.forth_program.specs.Step.{before}
 use Rattle.forth_program.specs.Run.{first_world, first_state}
 use Rattle.word_laws.specs.Cells.{IsWorld}
-use Rattle.word_laws.specs.Control.{Holds}
+use Rattle.word_table.specs.declared.word.Word.{Word}
+use Rattle.word_table.specs.declared.word.Word.TheVariants.{TypeOut}
+use Rattle.word_laws.specs.Control.{Holds, halt_cells}
 use Rattle.word_laws.specs.Standing.{standing_as, StandIn}
-use Rattle.code_layout.specs.Layout.{return_cell, size, nodes_cells, bodies_cells, begins_at, place_of, laid_out}
-use Rattle.code_layout.specs.Built.{is_laid_out, all_tokens, IsBuilt}
+use Rattle.code_layout.specs.Layout.{Routine, Definition, Library, Executing, Aborting, type_routine, return_cell, reaches_end, cell_if, size, body_size, nodes_cells, body_cells, bodies_cells, begins_at, bodies_size, execute_cells, abort_cells, tokens_cells, token_size, token_jumps, library_place, execute_place, abort_place, first_place, tokens_place, place_of, laid_out}
+use Rattle.code_layout.specs.Numbering.{library_number}
+use Rattle.code_layout.specs.Built.{is_laid_out, tokens, all_tokens, IsBuilt}
 use Rattle.code_layout.specs.Agreement.{AreBytes, code_of}
-use Rattle.code_layout.proofs.Work.{Returns, Stands, stands_before}
+use Rattle.code_layout.proofs.Routines.{IsRoutine, IsAborter}
+use Rattle.code_layout.proofs.Work.{Returns, IsExecutor, Stands, stands_before}
 use Rattle.code_layout.proofs.Machine.{Laws, both}
 use Rattle.code_layout.proofs.Steps.{AllStand}
-use Rattle.code_layout.proofs.Laying.{decode_call, size_is, cut, holds, onward, all_placed}
+use Rattle.code_layout.proofs.Laying.{decode_call, size_is, body_size_is, cut, holds_if, all_placed, tokens_stand}
+use Rattle.code_layout.proofs.Executing.{is_aborter, is_executor}
 
 -- ---- cells of bytes
 
@@ -55,88 +60,210 @@ bytes_at [] bytes (suc i) = omega arith
 bytes_at (byte ∷ input) bytes zero = All-head (λ byte. byte < 256) byte input bytes
 bytes_at (byte ∷ input) bytes (suc i) = bytes_at input (All-tail (λ byte. byte < 256) byte input bytes) i
 
-pub first_world_is : (p : SourceProgram) (input : List ℕ) → p.data_start ≡ 0x2000 → AreBytes p.first_space → AreBytes input → IsWorld (first_world p input)
+filled_room : (n : ℕ) (cells : List ℕ) → n ≤ length (filled n cells)
+filled_room n cells = omega (arith, length-append cells (replicate (n - length cells) 0), length-replicate {A = ℕ} (n - length cells) 0)
+
+pub first_world_is : (p : SourceProgram) (input : List ℕ) → IsDataStart p.data_start → AreBytes p.first_space → AreBytes input → IsWorld (first_world p input)
 first_world_is p input starts space bytes =
     let room = (0x4000 - p.data_start) / 2 in
     record {
-      data_start = omega (arith, starts);
+      data_start = let most = starts.at_most in omega (arith, most);
+      aligned = starts.is_even;
+      room = filled_room room (cells_of_bytes p.first_space);
       space = behind_small (cells_of_bytes p.first_space) (replicate ((0x4000 - p.data_start) / 2 - length (cells_of_bytes p.first_space)) 0) (small_cells p.first_space space) (zeros_small ((0x4000 - p.data_start) / 2 - length (cells_of_bytes p.first_space)));
       input = bytes_at input bytes;
     }
 
 -- ---- the code of definitions
 
-module _ (code : List ℕ) (p : SourceProgram) (low : (d : ℕ) → place_of p d < 8192) where
-  -- the code of the first definition with its return, and that of those after it
-  first_stands : (at next : ℕ) (body : Nodes) (bodies : List Nodes) → StandIn code at (bodies_cells (place_of p) at (body ∷ bodies)) next → at + length (bodies_cells (place_of p) at (body ∷ bodies)) < 8192 →
-      StandIn code at (nodes_cells (place_of p) 0 at body) (at + size body) × Returns code p (at + size body) × StandIn code (at + size body + 1) (bodies_cells (place_of p) (at + size body + 1) bodies) next
-      × (at + size body + 1 + length (bodies_cells (place_of p) (at + size body + 1) bodies) < 8192)
-  first_stands at next body bodies h n =
-      let after = return_cell ∷ bodies_cells (place_of p) (at + size body + 1) bodies in
-      let len = length-append (nodes_cells (place_of p) 0 at body) after in
-      let c = cut code at (size body) (nodes_cells (place_of p) 0 at body) after next (size_is body (place_of p) 0 at) (omega (arith, n, len, size_is body (place_of p) 0 at)) h in
-      let short : at + size body + 1 + length (bodies_cells (place_of p) (at + size body + 1) bodies) < 8192 = omega (arith, n, len, size_is body (place_of p) 0 at) in (
-        c.0,
-        holds code (at + size body) return_cell (decoded 0x700C) (bodies_cells (place_of p) (at + size body + 1) bodies) next c.1 refl,
-        onward code (at + size body) return_cell (bodies_cells (place_of p) (at + size body + 1) bodies) next (omega arith) c.1,
-        short,
-      )
+-- a body stands at a place, and its return where it is reached
+pub record BodyCode (data_start : ℕ) (code : List ℕ) (place : Routine → ℕ) (at : ℕ) (body : Nodes) : Type 0 where
+  pub cells_stand : StandIn code at (nodes_cells data_start place 0 at true true body) (at + size true true body)
+  pub returns : reaches_end true true body ≡ true → Holds code (at + size true true body) (decoded 0x700C)
+  pub low : at + size true true body < 8192
 
-  bodies_stand : (at next : ℕ) (bodies : List Nodes) → list_all (everywhere (is_laid_out (length p.bodies))) bodies ≡ true → list_all (leaves_fit false) bodies ≡ true → StandIn code at (bodies_cells (place_of p) at bodies) next →
-      at + length (bodies_cells (place_of p) at bodies) < 8192 → all_tokens bodies ≤ p.source_tokens → (d : ℕ) → d < length bodies → Stands code p None (begins_at at bodies d) (before (slice_index_or bodies d Empty) [])
-  bodies_stand at next [] items leaves h n few d lt = absurd (omega arith)
-  bodies_stand at next (body ∷ bodies) items leaves h n few zero lt =
-      let i = both (everywhere (is_laid_out (length p.bodies)) body) (list_all (everywhere (is_laid_out (length p.bodies))) bodies) items in
-      let l = both (leaves_fit false body) (list_all (leaves_fit false) bodies) leaves in
-      let f = first_stands at next body bodies h n in
-      stands_before code p body None at [] (Returns code p) (λ q k. k)
-      (all_placed code p low body false None 0 at (Returns code p) (i.0, l.0) (λ e. absurd (let f : false ≡ true = e in cc)) (omega arith) f.0 (let short = f.3 in omega (arith, short)) f.1) (omega arith)
-  bodies_stand at next (body ∷ bodies) items leaves h n few (suc d) lt =
-      let i = both (everywhere (is_laid_out (length p.bodies)) body) (list_all (everywhere (is_laid_out (length p.bodies))) bodies) items in
-      let l = both (leaves_fit false body) (list_all (leaves_fit false) bodies) leaves in
-      let f = first_stands at next body bodies h n in
-      bodies_stand (at + size body + 1) next bodies i.1 l.1 f.2 f.3 (omega arith) d (omega arith)
+module _ (data_start : ℕ) (code : List ℕ) (place : Routine → ℕ) where
+  -- the code of the first definition, and that of those after it
+  first_code : (at next : ℕ) (body : Nodes) (bodies : List Nodes) → StandIn code at (bodies_cells data_start place at (body ∷ bodies)) next → at + length (bodies_cells data_start place at (body ∷ bodies)) < 8192 →
+      BodyCode data_start code place at body × StandIn code (at + body_size body) (bodies_cells data_start place (at + body_size body) bodies) next
+      × (at + body_size body + length (bodies_cells data_start place (at + body_size body) bodies) < 8192)
+  first_code at next body bodies h n =
+      let after = bodies_cells data_start place (at + body_size body) bodies in
+      let reached = reaches_end true true body in
+      let whole = body_size_is data_start place at body in
+      let short : at + body_size body + length after < 8192 = omega (arith, n, length-append (body_cells data_start place at body) after, whole) in
+      let c = cut code at (body_size body) (body_cells data_start place at body) after next (body_size_is data_start place at body) (omega (arith, short)) h in
+      let d = cut code at (size true true body) (nodes_cells data_start place 0 at true true body) (cell_if reached return_cell) (at + body_size body) (size_is body data_start place 0 at true true) (omega (arith, short)) c.0 in
+      (record { cells_stand = d.0; returns = λ g. holds_if code reached (at + size true true body) return_cell (decoded 0x700C) (at + body_size body) g d.1 refl; low = omega (arith, short) }, c.1, short)
 
-begins_low : (place : ℕ → ℕ) (at : ℕ) (bodies : List Nodes) (d : ℕ) → at + length (bodies_cells place at bodies) < 8192 → begins_at at bodies d < 8192
-begins_low place at [] d h = omega arith
-begins_low place at (body ∷ bodies) zero h = omega arith
-begins_low place at (body ∷ bodies) (suc d) h =
-    begins_low place (at + size body + 1) bodies d (omega (arith, h, length-append (nodes_cells place 0 at body) (return_cell ∷ bodies_cells place (at + size body + 1) bodies), size_is body place 0 at))
+  pub codes : (at next : ℕ) (bodies : List Nodes) → StandIn code at (bodies_cells data_start place at bodies) next → at + length (bodies_cells data_start place at bodies) < 8192 →
+      (d : ℕ) → d < length bodies → BodyCode data_start code place (begins_at at bodies d) (slice_index_or bodies d Empty)
+  codes at next [] h n d lt = absurd (omega arith)
+  codes at next (body ∷ bodies) h n zero lt = (first_code at next body bodies h n).0
+  codes at next (body ∷ bodies) h n (suc d) lt = let f = first_code at next body bodies h n in codes (at + body_size body) next bodies f.1 f.2 d (omega arith)
+
+module _ (code : List ℕ) (place : Routine → ℕ) where
+  module _ (p : SourceProgram) (executes : Bool) (words : ℕ) (routine : (word : Word) (number : ℕ) → library_number word ≡ Some number → number < words → IsRoutine p.data_start code word (place (Library number)))
+      (executor : executes ≡ true → IsExecutor code (λ d. place (Definition d)) p (place Executing)) (aborter : executes ≡ true → 34 < words → IsAborter p.data_start code (place Aborting)) (low : (r : Routine) → place r < 8192) where
+    -- a body whose code stands is laid out as work
+    pub body_stands : (at : ℕ) (body : Nodes) → BodyCode p.data_start code place at body → everywhere (is_laid_out executes words (length p.bodies)) body ≡ true → leaves_fit false body ≡ true → tokens body ≤ p.source_tokens →
+        Stands code (λ d. place (Definition d)) p None at (before body [])
+    body_stands at body b items leaves few =
+        stands_before code (λ d. place (Definition d)) p body None at [] (Returns code (λ d. place (Definition d)) p) (λ q k. k)
+        (all_placed code place p executes words routine executor aborter low body true false None 0 at (Returns code (λ d. place (Definition d)) p) (items, leaves) (λ e. absurd (let f : false ≡ true = e in cc)) (omega arith) b.cells_stand b.low b.returns) (omega (arith, few))
+
+-- what holds of all bodies holds of one
+pub test_of : (test : Nodes → Bool) (bodies : List Nodes) (d : ℕ) → list_all test bodies ≡ true → d < length bodies → test (slice_index_or bodies d Empty) ≡ true
+test_of test [] d all lt = absurd (omega arith)
+test_of test (body ∷ bodies) zero all lt = (both (test body) (list_all test bodies) all).0
+test_of test (body ∷ bodies) (suc d) all lt = test_of test bodies d (both (test body) (list_all test bodies) all).1 (omega arith)
+
+pub tokens_of : (bodies : List Nodes) (d : ℕ) → d < length bodies → tokens (slice_index_or bodies d Empty) ≤ all_tokens bodies
+tokens_of [] d lt = absurd (omega arith)
+tokens_of (body ∷ bodies) zero lt = omega arith
+tokens_of (body ∷ bodies) (suc d) lt = let h = tokens_of bodies d (omega arith) in omega (arith, h)
+
+pub begins_low : (at most : ℕ) (bodies : List Nodes) (d : ℕ) → at + bodies_size bodies < 8192 → begins_at at bodies d < 8192
+begins_low at most [] d h = omega arith
+begins_low at most (body ∷ bodies) zero h = omega arith
+begins_low at most (body ∷ bodies) (suc d) h = begins_low (at + body_size body) most bodies d (omega arith)
+
+pub bodies_size_is : (data_start : ℕ) (place : Routine → ℕ) (at : ℕ) (bodies : List Nodes) → length (bodies_cells data_start place at bodies) ≡ bodies_size bodies
+bodies_size_is data_start place at [] = refl
+bodies_size_is data_start place at (body ∷ bodies) =
+    omega (arith, length-append (body_cells data_start place at body) (bodies_cells data_start place (at + body_size body) bodies), body_size_is data_start place at body, bodies_size_is data_start place (at + body_size body) bodies)
+
+pub jumps_length : (place : Routine → ℕ) (at : ℕ) (tokens : List Node) → length (token_jumps place at tokens) ≡ length tokens
+jumps_length place at [] = refl
+jumps_length place at (node ∷ tokens) = ap suc (jumps_length place (at + token_size node) tokens)
 
 -- ---- the image
 
 pub filled_length : (n : ℕ) (cells : List ℕ) → length cells ≤ n → length (filled n cells) ≡ n
 filled_length n cells few = simp (length-append, length-replicate) (omega arith)
 
-module _ (laws : Laws) (p : SourceProgram) (built : IsBuilt p) where
-  pub code_size : length (code_of p) ≡ 4096
-  code_size =
-      let few = built.code_fits in
-      let starts = built.data_start in
-      filled_length (p.data_start / 2) (laid_out p).cells (omega (arith, few, starts)) ∙ (let e : p.data_start / 2 ≡ 4096 = omega (arith, starts) in e)
+module _ (laws : Laws) (library : List Nodes) (p : SourceProgram) (built : IsBuilt library p) where
+  abbrev place : Routine → ℕ
+  place = place_of library p
+
+  abbrev pub definitions : ℕ → ℕ
+  definitions d = place_of library p (Definition d)
+
+  pub code_size : length (code_of library p) ≡ p.data_start / 2
+  code_size = filled_length (p.data_start / 2) (laid_out library p).cells built.code_fits
 
   -- the machine begins where the source begins
-  pub begins : (input : List ℕ) → begun (open_start (laid_out p)) input ≡ standing_as (first_state p input) (code_of p) 0 [] [] []
+  pub begins : (input : List ℕ) → begun (open_start (laid_out library p)) input ≡ standing_as (first_state p input) (code_of library p) 0 [] [] []
   begins input =
-      ap (λ space. begun (record { pc = 0; t = None; data_stack = blank; return_stack = blank; memory = code_of p ++ space }) input)
-      (ap (λ s. filled (0x2000 - s / 2) (cells_of_bytes p.first_space)) built.data_start ∙ sym (ap (λ s. filled ((0x4000 - s) / 2) (cells_of_bytes p.first_space)) built.data_start))
+      let even = built.data_start.is_even in
+      let most = built.data_start.at_most in
+      let room : 0x2000 - p.data_start / 2 ≡ (0x4000 - p.data_start) / 2 = omega (arith, even, most) in
+      ap (λ n. begun (record { pc = 0; t = None; data_stack = blank; return_stack = blank; memory = code_of library p ++ filled n (cells_of_bytes p.first_space) }) input) room
 
-  short : 8 + length (bodies_cells (place_of p) 8 p.bodies) < 8192
-  short = let few = built.code_fits in omega (arith, few)
+  abbrev jumps : List ℕ
+  jumps = token_jumps (place_of library p) (tokens_place library p) p.tokens
 
-  low : (d : ℕ) → place_of p d < 8192
-  low d = begins_low (place_of p) 8 p.bodies d short
+  abbrev of_library : List ℕ
+  of_library = bodies_cells p.data_start (place_of library p) (library_place p) library
 
-  image_stands : StandIn (code_of p) 0 (laid_out p).cells (0 + length (laid_out p).cells)
-  image_stands = let few = built.code_fits in laws.cells_stand [] (laid_out p).cells (replicate (p.data_start / 2 - length (laid_out p).cells) 0) (omega (arith, few))
+  abbrev of_execute : List ℕ
+  of_execute = execute_cells (execute_place library p) (length p.tokens)
 
-  pub main_called : Holds (code_of p) 0 (CallTo (place_of p p.main_body))
-  main_called = (ap decoded image_stands.0 ∙ decode_call (place_of p p.main_body) (low p.main_body), image_stands.1)
+  abbrev of_abort : List ℕ
+  of_abort = abort_cells (abort_place library p) (place_of library p type_routine)
 
-  pub all_stand : AllStand laws p (code_of p) code_size
-  all_stand =
-      let h = image_stands.2 in
-      record {
-        halt = (h.0, h.1, (h.2.0, h.2.1, (h.2.2.0, h.2.2.1, refl)));
-        bodies = λ d lt. bodies_stand (code_of p) p low 8 _ p.bodies built.items built.leaves_in_loops h.2.2.2.2.2.2.2 short built.tokens_counted d lt;
-      }
+  abbrev of_program : List ℕ
+  of_program = bodies_cells p.data_start (place_of library p) (first_place library p) p.bodies
+
+  abbrev of_tokens : List ℕ
+  of_tokens = tokens_cells p.data_start (place_of library p) p.tokens
+
+  last : ℕ
+  last = length (laid_out library p).cells
+
+  short : tokens_place library p + length (tokens_cells p.data_start (place_of library p) p.tokens) ≤ 8000
+  short =
+      let few = built.code_fits in
+      let most = built.data_start.at_most in
+      omega (
+        arith,
+        few,
+        most,
+        length-append jumps (of_library ++ (of_execute ++ (of_abort ++ (of_program ++ of_tokens)))),
+        length-append of_library (of_execute ++ (of_abort ++ (of_program ++ of_tokens))),
+        length-append of_program of_tokens,
+        jumps_length (place_of library p) (tokens_place library p) p.tokens,
+        bodies_size_is p.data_start (place_of library p) (library_place p) library,
+        bodies_size_is p.data_start (place_of library p) (first_place library p) p.bodies,
+      )
+
+  pub low : (r : Routine) → place_of library p r < 8192
+  low (Definition d) = let h = short in begins_low (first_place library p) 0 p.bodies d (omega arith)
+  low (Library number) = let h = short in begins_low (library_place p) 0 library number (omega arith)
+  low Executing = let h = short in omega arith
+  low Aborting = let h = short in omega arith
+
+  image_stands : StandIn (code_of library p) 0 (laid_out library p).cells (0 + length (laid_out library p).cells)
+  image_stands = let few = built.code_fits in let most = built.data_start.at_most in laws.cells_stand [] (laid_out library p).cells (replicate (p.data_start / 2 - length (laid_out library p).cells) 0) (omega (arith, few, most))
+
+  pub main_called : Holds (code_of library p) 0 (CallTo (definitions p.main_body))
+  main_called = (ap decoded image_stands.0 ∙ decode_call (definitions p.main_body) (low (Definition p.main_body)), image_stands.1)
+
+  pub halt_stands : StandIn (code_of library p) 1 halt_cells 4
+  halt_stands = let h = image_stands.2 in (h.0, h.1, (h.2.0, h.2.1, (h.2.2.0, h.2.2.1, refl)))
+
+  abbrev end : ℕ
+  end = 0 + length (laid_out library p).cells
+
+  -- the parts of the image one after the other
+  pub jumps_stand : StandIn (code_of library p) 8 jumps (library_place p) × StandIn (code_of library p) (library_place p) (of_library ++ (of_execute ++ (of_abort ++ (of_program ++ of_tokens)))) end
+  jumps_stand =
+      let h = short in
+      cut (code_of library p) 8 (length p.tokens) jumps (of_library ++ (of_execute ++ (of_abort ++ (of_program ++ of_tokens)))) end (jumps_length (place_of library p) (tokens_place library p) p.tokens) (omega arith) image_stands.2.2.2.2.2.2.2.2
+
+  library_stands : StandIn (code_of library p) (library_place p) of_library (execute_place library p) × StandIn (code_of library p) (execute_place library p) (of_execute ++ (of_abort ++ (of_program ++ of_tokens))) end
+  library_stands =
+      let h = short in
+      cut (code_of library p) (library_place p) (bodies_size library) of_library (of_execute ++ (of_abort ++ (of_program ++ of_tokens))) end (bodies_size_is p.data_start (place_of library p) (library_place p) library) (omega arith) jumps_stand.1
+
+  pub execute_stands : StandIn (code_of library p) (execute_place library p) of_execute (abort_place library p) × StandIn (code_of library p) (abort_place library p) (of_abort ++ (of_program ++ of_tokens)) end
+  execute_stands = let h = short in cut (code_of library p) (execute_place library p) 15 of_execute (of_abort ++ (of_program ++ of_tokens)) end refl (omega arith) library_stands.1
+
+  pub abort_stands : StandIn (code_of library p) (abort_place library p) of_abort (first_place library p) × StandIn (code_of library p) (first_place library p) (of_program ++ of_tokens) end
+  abort_stands = let h = short in cut (code_of library p) (abort_place library p) 15 of_abort (of_program ++ of_tokens) end refl (omega arith) execute_stands.1
+
+  pub program_stands : StandIn (code_of library p) (first_place library p) of_program (tokens_place library p) × StandIn (code_of library p) (tokens_place library p) of_tokens end
+  program_stands =
+      let h = short in
+      cut (code_of library p) (first_place library p) (bodies_size p.bodies) of_program of_tokens end (bodies_size_is p.data_start (place_of library p) (first_place library p) p.bodies) (omega arith) abort_stands.1
+
+  pub library_code : (number : ℕ) → number < length library → BodyCode p.data_start (code_of library p) (place_of library p) (place_of library p (Library number)) (slice_index_or library number Empty)
+  library_code number lt = let few = short in codes p.data_start (code_of library p) (place_of library p) (library_place p) (execute_place library p) library library_stands.0 (omega (arith, bodies_size_is p.data_start (place_of library p) (library_place p) library)) number lt
+
+  pub program_code : (d : ℕ) → d < length p.bodies → BodyCode p.data_start (code_of library p) (place_of library p) (definitions d) (slice_index_or p.bodies d Empty)
+  program_code d lt =
+      let few = short in
+      codes p.data_start (code_of library p) (place_of library p) (first_place library p) (tokens_place library p) p.bodies program_stands.0 (omega (arith, bodies_size_is p.data_start (place_of library p) (first_place library p) p.bodies)) d lt
+
+  -- the code of ABORT" does what it does, where TYPE stands
+  aborts : ((word : Word) (number : ℕ) → library_number word ≡ Some number → number < length library → IsRoutine p.data_start (code_of library p) word (place_of library p (Library number))) → 34 < length library → IsAborter p.data_start (code_of library p) (place_of library p Aborting)
+  aborts routine some =
+      let h = short in
+      is_aborter laws p (code_of library p) definitions code_size (abort_place library p) (place_of library p type_routine) (first_place library p) abort_stands.0 (omega arith) (low type_routine) (routine TypeOut 34 refl some)
+
+  -- and that of EXECUTE, where each token's jump leads to its code
+  executes : ((word : Word) (number : ℕ) → library_number word ≡ Some number → number < length library → IsRoutine p.data_start (code_of library p) word (place_of library p (Library number))) → IsExecutor (code_of library p) definitions p (place_of library p Executing)
+  executes routine =
+      let h = short in
+      is_executor laws p (code_of library p) definitions code_size (execute_place library p) (length p.tokens) (abort_place library p) execute_stands.0 (omega arith) (omega arith) refl
+      (tokens_stand (code_of library p) (place_of library p) p false (length library) routine (λ e. absurd (let f : false ≡ true = e in cc)) (λ e. absurd (let f : false ≡ true = e in cc)) low p.tokens 8 (tokens_place library p) (library_place p) end built.token_items jumps_stand.0 program_stands.1 (omega arith) (omega arith))
+
+  -- every definition stands, where the library's routines do
+  pub all_stand : ((word : Word) (number : ℕ) → library_number word ≡ Some number → number < length library → IsRoutine p.data_start (code_of library p) word (place_of library p (Library number))) → AllStand laws p (code_of library p) definitions code_size
+  all_stand routine = record {
+    halt = halt_stands;
+    bodies = λ d lt.
+        body_stands (code_of library p) (place_of library p) p true (length library) routine (λ e. executes routine) (λ e. aborts routine) low (definitions d) (slice_index_or p.bodies d Empty) (program_code d lt)
+        (test_of (everywhere (is_laid_out true (length library) (length p.bodies))) p.bodies d built.items lt) (test_of (leaves_fit false) p.bodies d built.leaves_in_loops lt)
+        (let counted = built.tokens_counted in omega (arith, counted, tokens_of p.bodies d lt));
+  }

@@ -9,7 +9,7 @@ use Rattle.word_laws.specs.Bounds.{StaysWithin, RunsJoin, BoundsJoin, BoundsWide
 use Rattle.word_laws.specs.Control.{LeadsTo, JumpLeads, CallLeads, ReturnLeads, BranchLeads, BranchPasses, HaltEnds}
 use Rattle.word_laws.specs.Numbers.{NumbersDoTheirMeaning, NumbersKeepTheirBounds}
 use Rattle.word_laws.specs.Standing.{StandIn, CellsStand}
-use Rattle.word_laws.specs.Words.{WordsDoTheirMeaning, WordsKeepTheirBounds, WordsEndWithinBounds, NeedsAreExact, WordsLeaveCells}
+use Rattle.word_laws.specs.Words.{WordsDoTheirMeaning, WordsKeepTheirBounds, WordsEndWithinBounds, NeedsAreExact, WordsLeaveCells, WordsChangeDepths}
 
 -- the laws on which this stands
 pub record Laws : Type 0 where
@@ -18,6 +18,7 @@ pub record Laws : Type 0 where
   pub word_ends : WordsEndWithinBounds
   pub word_needs : NeedsAreExact
   pub word_cells : WordsLeaveCells
+  pub word_depths : WordsChangeDepths
   pub numbers : NumbersDoTheirMeaning
   pub number_bounds : NumbersKeepTheirBounds
   pub jumps : JumpLeads
@@ -33,9 +34,9 @@ pub record Laws : Type 0 where
   pub grows : OnlyGrows open_storage
 
 -- n instructions lead from one configuration to another, with at most so many data and return cells before each of them
-pub record Runs (high return_high n : ℕ) (from to : OpenConfiguration) : Type 0 where
-  pub makes : run open_storage 0x2000 n from ≡ to
-  pub bounds : BeforeEach (StaysWithin 0 high 0 return_high) 0x2000 n from
+pub record Runs (data_start high return_high n : ℕ) (from to : OpenConfiguration) : Type 0 where
+  pub makes : run open_storage data_start n from ≡ to
+  pub bounds : BeforeEach (StaysWithin 0 high 0 return_high) data_start n from
 
 pub both : (a b : Bool) → (a && b) ≡ true → (a ≡ true) × (b ≡ true)
 both true b e = (refl, e)
@@ -47,21 +48,21 @@ stand_split code [] more pc next stands = (pc, refl, stands)
 stand_split code (cell ∷ cells) more pc next stands =
     let r = stand_split code cells more (following pc) next stands.2 in (r.0, (stands.0, stands.1, r.1), r.2)
 
-module _ (laws : Laws) where
+module _ (laws : Laws) (data_start : ℕ) where
   -- one configuration within narrower bounds
   pub narrower : (low high return_low return_high high' return_high' : ℕ) (v : OpenConfiguration) → high ≤ high' → return_high ≤ return_high' → StaysWithin low high return_low return_high v → StaysWithin 0 high' 0 return_high' v
   narrower low high return_low return_high high' return_high' v h r within =
-      (laws.bounds_widen low high return_low return_high 0 high' 0 return_high' 1 0x2000 v (omega arith) h (omega arith) r (within, tt)).0
+      (laws.bounds_widen low high return_low return_high 0 high' 0 return_high' 1 data_start v (omega arith) h (omega arith) r (within, tt)).0
 
-  pub wider : (low high return_low return_high high' return_high' n : ℕ) (v : OpenConfiguration) → high ≤ high' → return_high ≤ return_high' → BeforeEach (StaysWithin low high return_low return_high) 0x2000 n v → BeforeEach (StaysWithin 0 high' 0 return_high') 0x2000 n v
-  wider low high return_low return_high high' return_high' n v h r before = laws.bounds_widen low high return_low return_high 0 high' 0 return_high' n 0x2000 v (omega arith) h (omega arith) r before
+  pub wider : (low high return_low return_high high' return_high' n : ℕ) (v : OpenConfiguration) → high ≤ high' → return_high ≤ return_high' → BeforeEach (StaysWithin low high return_low return_high) data_start n v → BeforeEach (StaysWithin 0 high' 0 return_high') data_start n v
+  wider low high return_low return_high high' return_high' n v h r before = laws.bounds_widen low high return_low return_high 0 high' 0 return_high' n data_start v (omega arith) h (omega arith) r before
 
-  pub runs_then : (high return_high a b : ℕ) (from middle to : OpenConfiguration) → Runs high return_high a from middle → Runs high return_high b middle to → Runs high return_high (a + b) from to
+  pub runs_then : (high return_high a b : ℕ) (from middle to : OpenConfiguration) → Runs data_start high return_high a from middle → Runs data_start high return_high b middle to → Runs data_start high return_high (a + b) from to
   runs_then high return_high a b from middle to one two = record {
-    makes = laws.runs_join a b 0x2000 from ∙ ap (run open_storage 0x2000 b) one.makes ∙ two.makes;
-    bounds = laws.bounds_join 0 high 0 return_high a b 0x2000 from one.bounds (subst (BeforeEach (StaysWithin 0 high 0 return_high) 0x2000 b) (sym one.makes) two.bounds);
+    makes = laws.runs_join a b data_start from ∙ ap (run open_storage data_start b) one.makes ∙ two.makes;
+    bounds = laws.bounds_join 0 high 0 return_high a b data_start from one.bounds (subst (BeforeEach (StaysWithin 0 high 0 return_high) data_start b) (sym one.makes) two.bounds);
   }
 
   -- one instruction
-  pub runs_one : (depth return_depth high return_high : ℕ) (from to : OpenConfiguration) → depth ≤ high → return_depth ≤ return_high → LeadsTo 0x2000 depth return_depth from to → Runs high return_high 1 from to
+  pub runs_one : (depth return_depth high return_high : ℕ) (from to : OpenConfiguration) → depth ≤ high → return_depth ≤ return_high → LeadsTo data_start depth return_depth from to → Runs data_start high return_high 1 from to
   runs_one depth return_depth high return_high from to h r leads = record { makes = leads.makes; bounds = wider depth depth return_depth return_depth high return_high 1 from h r leads.bounds }

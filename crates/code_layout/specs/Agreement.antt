@@ -13,16 +13,18 @@ use Rattle.word_laws.specs.Rings.{OpenConfiguration, BeforeEach}
 use Rattle.word_laws.specs.Bounds.{StaysWithin}
 use Rattle.word_laws.specs.Standing.{machine_end}
 use Rattle.word_laws.specs.Words.{lacks}
+use Rattle.forth_program.specs.Tree.{Nodes}
 use Rattle.code_layout.specs.Layout.{laid_out}
 use Rattle.code_layout.specs.Built.{IsBuilt}
+use Rattle.code_layout.specs.Library.{IsLibrary, LibraryMeans}
 use Rattle.code_layout.specs.Stacks.{DepthFits, StacksFit}
 
 abbrev pub AreBytes : List ℕ → Type 0
 AreBytes bytes = All (λ byte. byte < 256) bytes
 
 -- the cells of memory before data space
-abbrev pub code_of : SourceProgram → List ℕ
-code_of p = filled (p.data_start / 2) (laid_out p).cells
+abbrev pub code_of : List Nodes → SourceProgram → List ℕ
+code_of library p = filled (p.data_start / 2) (laid_out library p).cells
 
 -- within k word steps the source lacks no cells and finds its return entries, and DEPTH counts at most 31 cells
 pub record GoesWell (p : SourceProgram) (input : List ℕ) (k : ℕ) : Type 0 where
@@ -46,31 +48,31 @@ abbrev pub word_steps : SourceProgram → ℕ → ℕ
 word_steps p n = (n + 1) * (p.source_tokens + 4)
 
 -- the image does at least what k word steps do
-pub record DoesAsMuch (p : SourceProgram) (input : List ℕ) (k : ℕ) : Type 0 where
+pub record DoesAsMuch (library : List Nodes) (p : SourceProgram) (input : List ℕ) (k : ℕ) : Type 0 where
   -- in as many instructions as they may cost, or fewer, it comes to show the same
   pub count : ℕ
   pub within_price : count ≤ price p input k
-  pub shows : Shows (code_of p) (open_run (laid_out p) input count) (source_run p input k)
+  pub shows : Shows (code_of library p) (open_run (laid_out library p) input count) (source_run p input k)
   -- up to there it needs no unknown cell
-  pub never_missing : (n : ℕ) → n ≤ count → (open_run (laid_out p) input n).stop ≢ Some Missing
+  pub never_missing : (n : ℕ) → n ≤ count → (open_run (laid_out library p) input n).stop ≢ Some Missing
   -- these are more than n instructions, if the steps are enough for n and have not ended
   pub far_enough : (n : ℕ) → word_steps p n ≤ k → end_of (source_run p input k) ≡ None → n < count
   -- before each of them, and at the end of the run, both stacks have no more cells than the steps take
-  pub stacks_before : (high return_high : ℕ) → StacksFit p input high return_high k → BeforeEach (StaysWithin 0 high 0 return_high) p.data_start count (begun (open_start (laid_out p)) input)
-  pub stacks_at_end : (high return_high : ℕ) (end : End) → StacksFit p input high return_high k → end_of (source_run p input k) ≡ Some end → StaysWithin 0 high 0 return_high (open_run (laid_out p) input count)
+  pub stacks_before : (high return_high : ℕ) → StacksFit p input high return_high k → BeforeEach (StaysWithin 0 high 0 return_high) p.data_start count (begun (open_start (laid_out library p)) input)
+  pub stacks_at_end : (high return_high : ℕ) (end : End) → StacksFit p input high return_high k → end_of (source_run p input k) ≡ Some end → StaysWithin 0 high 0 return_high (open_run (laid_out library p) input count)
 
 abbrev pub ImagesDoAsMuch : Type 0
-ImagesDoAsMuch = (p : SourceProgram) (input : List ℕ) (k : ℕ) → IsBuilt p → AreBytes p.first_space → AreBytes input → GoesWell p input k → DoesAsMuch p input k
+ImagesDoAsMuch = (library : List Nodes) (p : SourceProgram) (input : List ℕ) (k : ℕ) → IsLibrary library → LibraryMeans library → IsBuilt library p → AreBytes p.first_space → AreBytes input → GoesWell p input k → DoesAsMuch library p input k
 
 -- what n instructions print is a beginning of what those word steps print, and where they have ended the source has ended alike
-pub record DoesNoMore (p : SourceProgram) (input : List ℕ) (n : ℕ) : Type 0 where
-  pub prints : IsPrefixOf (open_run (laid_out p) input n).printed (world_of (source_run p input (word_steps p n))).printed
-  pub ends : (stop : Stop) → (open_run (laid_out p) input n).stop ≡ Some stop → (end : End) × (end_of (source_run p input (word_steps p n)) ≡ Some end) × (machine_end end ≡ Some stop)
+pub record DoesNoMore (library : List Nodes) (p : SourceProgram) (input : List ℕ) (n : ℕ) : Type 0 where
+  pub prints : IsPrefixOf (open_run (laid_out library p) input n).printed (world_of (source_run p input (word_steps p n))).printed
+  pub ends : (stop : Stop) → (open_run (laid_out library p) input n).stop ≡ Some stop → (end : End) × (end_of (source_run p input (word_steps p n)) ≡ Some end) × (machine_end end ≡ Some stop)
 
 abbrev pub ImagesDoNoMore : Type 0
-ImagesDoNoMore = (p : SourceProgram) (input : List ℕ) (n : ℕ) → IsBuilt p → AreBytes p.first_space → AreBytes input → GoesWell p input (word_steps p n) → DoesNoMore p input n
+ImagesDoNoMore = (library : List Nodes) (p : SourceProgram) (input : List ℕ) (n : ℕ) → IsLibrary library → LibraryMeans library → IsBuilt library p → AreBytes p.first_space → AreBytes input → GoesWell p input (word_steps p n) → DoesNoMore library p input n
 
--- both hold of every built program
+-- both hold of every built program, with every library that means its words
 pub record ImagesAgree : Type 0 where
   pub as_much : ImagesDoAsMuch
   pub no_more : ImagesDoNoMore

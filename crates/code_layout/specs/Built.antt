@@ -1,21 +1,45 @@
 -- The programs whose images are built so far.
-use Rattle.std.specs.Prelude.{◌≡◌, ℕ, ◌+◌, ◌<◌, ◌≤◌, nat_lt, Bool, true, false, List, [], ◌∷◌, length}
+use Rattle.std.specs.Prelude.{◌≡◌, ℕ, ◌+◌, ◌/◌, ◌<◌, ◌≤◌, nat_lt, Bool, true, false, ◌&&◌, List, [], ◌∷◌, length, Option, Some, None}
 use Rattle.std.specs.List.{list_all}
-use Rattle.forth_program.specs.Tree.{Node, Nodes, Literal, Plain, Call, Child, Text, If, Until, While, Do, Empty, Then}
+use Rattle.word_table.specs.declared.word.Word.{Word}
+use Rattle.forth_program.specs.declared.item.TextKind.{TextKind}
+use Rattle.forth_program.specs.declared.item.TextKind.TheVariants as text
+use Rattle.forth_program.specs.Tree.{Node, Nodes, Arms, Literal, Plain, Call, Child, Text, If, Until, While, Again, Do, QDo, Case, Empty, Then, NoArm, Arm}
 use Rattle.forth_program.specs.Program.{SourceProgram}
-use Rattle.forth_program.specs.Form.{everywhere, leaves_fit}
+use Rattle.forth_program.specs.Form.{IsDataStart, everywhere, leaves_fit, may_be_token}
 use Rattle.word_laws.specs.Words.{stands_plain}
-use Rattle.code_layout.specs.Layout.{laid_out}
+use Rattle.code_layout.specs.Layout.{Routine, Library, Executing, routine_of, laid_out}
 
--- an item that is laid out, where there are so many definitions: numbers are cells, words are inline or work on return
--- entries, and a call leads to a definition. Library words, children and texts are not
-abbrev pub is_laid_out : ℕ → Node → Bool
-is_laid_out count (Literal value) = nat_lt value 0x10000
-is_laid_out count (Plain word) = stands_plain word
-is_laid_out count (Call definition) = nat_lt definition count
-is_laid_out count (Child definition address) = false
-is_laid_out count (Text kind address size) = false
-is_laid_out count node = true
+-- a word that is laid out: one of the first so many of the library, EXECUTE if it is allowed, or an inline word or a word on
+-- return entries
+abbrev pub word_is_laid_out : Bool → ℕ → Option Routine → Word → Bool
+word_is_laid_out executes words None word = stands_plain word
+word_is_laid_out executes words (Some (Library number)) word = nat_lt number words
+word_is_laid_out executes words (Some Executing) word = executes
+word_is_laid_out executes words (Some routine) word = false
+
+-- a text is printed by TYPE
+abbrev pub text_is_laid_out : ℕ → TextKind → Bool
+text_is_laid_out words text.Address = true
+text_is_laid_out words kind = nat_lt 34 words
+
+-- an item that is laid out, where there are so many library words and definitions, and where EXECUTE and texts may stand or not: numbers are
+-- cells, calls and children lead to definitions, and the addresses of children and texts and the length of a text are below 0x8000
+abbrev pub is_laid_out : Bool → ℕ → ℕ → Node → Bool
+is_laid_out executes words count (Literal value) = nat_lt value 0x10000
+is_laid_out executes words count (Plain word) = word_is_laid_out executes words (routine_of word) word
+is_laid_out executes words count (Call definition) = nat_lt definition count
+is_laid_out executes words count (Child definition address) = nat_lt definition count && nat_lt address 0x8000
+is_laid_out executes words count (Text kind address characters) = executes && text_is_laid_out words kind && nat_lt address 0x8000 && nat_lt characters 0x8000
+is_laid_out executes words count node = true
+
+-- a token that is laid out: a definition, a child, a number, or a word that is neither EXECUTE nor of class structure
+abbrev pub token_is_laid_out : ℕ → ℕ → Node → Bool
+token_is_laid_out words count (Literal value) = nat_lt value 0x10000
+token_is_laid_out words count (Plain word) = may_be_token (Plain word) && is_laid_out false words count (Plain word)
+token_is_laid_out words count (Call definition) = nat_lt definition count
+token_is_laid_out words count (Child definition address) = nat_lt definition count && nat_lt address 0x8000
+token_is_laid_out words count node = false
 
 -- the tokens of a source that items stand for, those of structures among them
 abbrev mutual
@@ -23,22 +47,30 @@ abbrev mutual
   node_tokens (If first second) = tokens first + tokens second + 2
   node_tokens (Until body) = tokens body + 2
   node_tokens (While test body) = tokens test + tokens body + 3
+  node_tokens (Again body) = tokens body + 2
   node_tokens (Do body plus) = tokens body + 2
+  node_tokens (QDo body plus) = tokens body + 2
+  node_tokens (Case arms rest) = arms_tokens arms + tokens rest + 2
   node_tokens node = 1
 
   pub tokens : Nodes → ℕ
   tokens Empty = 0
   tokens (Then node rest) = node_tokens node + tokens rest
 
+  pub arms_tokens : Arms → ℕ
+  arms_tokens NoArm = 0
+  arms_tokens (Arm tests body others) = tokens tests + tokens body + 2 + arms_tokens others
+
 -- those of definitions, each with `:`, its name and `;`
 abbrev pub all_tokens : List Nodes → ℕ
 all_tokens [] = 0
 all_tokens (body ∷ bodies) = tokens body + 3 + all_tokens bodies
 
-pub record IsBuilt (p : SourceProgram) : Type 0 where
+pub record IsBuilt (library : List Nodes) (p : SourceProgram) : Type 0 where
   pub has_main : p.main_body < length p.bodies
-  pub items : list_all (everywhere (is_laid_out (length p.bodies))) p.bodies ≡ true
+  pub items : list_all (everywhere (is_laid_out true (length library) (length p.bodies))) p.bodies ≡ true
+  pub token_items : list_all (token_is_laid_out (length library) (length p.bodies)) p.tokens ≡ true
   pub leaves_in_loops : list_all (leaves_fit false) p.bodies ≡ true
-  pub code_fits : length (laid_out p).cells ≤ 4096
-  pub data_start : p.data_start ≡ 0x2000
+  pub data_start : IsDataStart p.data_start
+  pub code_fits : length (laid_out library p).cells ≤ p.data_start / 2
   pub tokens_counted : all_tokens p.bodies ≤ p.source_tokens

@@ -1,6 +1,10 @@
+pub mod Numbering
 pub mod Layout
 pub mod Built
 pub mod Stacks
+pub mod Library
 pub mod Agreement
 pub mod Chip
+pub mod LastCalls
 pub mod Places
+pub mod Weights

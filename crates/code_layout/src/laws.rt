@@ -1,15 +1,18 @@
 // What the open machine does on the image of a program.
 ghost use Rattle.code_layout.specs.Agreement.{ImagesAgree};
 ghost use Rattle.code_layout.specs.Chip.{ChipsAgree};
+ghost use Rattle.code_layout.specs.LastCalls.{LastCallsAreJumps};
+ghost use Rattle.code_layout.specs.Weights.{CodeIsLight};
 
 use j1_simulator::runs_only_grow;
 use word_laws::{
     cells_stand, control_leads, halt_ends, needs_are_exact, numbers_do_their_meaning,
-    rings_do_the_same, runs_join, words_do_their_meaning, words_keep_their_bounds,
-    words_leave_cells,
+    rings_do_the_same, runs_join, words_change_depths, words_do_their_meaning,
+    words_keep_their_bounds, words_leave_cells,
 };
 
-/// As long as a source lacks no cells and no return entries, its image does what the source does, within the price of the word
+/// With a library whose bodies mean its words: as long as a source lacks no cells and no return entries, its image does what the
+/// source does, within the price of the word
 /// steps: it prints the same, ends alike and leaves the same input and data space. And what n instructions print is no more than
 /// what `(n + 1) * (source_tokens + 4)` word steps print, and their end is the source's.
 pub fn images_agree()
@@ -19,6 +22,7 @@ pub fn images_agree()
     words_keep_their_bounds();
     needs_are_exact();
     words_leave_cells();
+    words_change_depths();
     numbers_do_their_meaning();
     control_leads();
     halt_ends();
@@ -37,3 +41,18 @@ pub fn chips_agree()
     runs_join();
     runs_only_grow();
 }
+
+/// Last calls are jumps: where `CHARS` is not used, no `CASE` begins with `EXIT`, and calls lead to definitions that do not come
+/// later, no call stands before a return, be it directly or with no more than a jump to it between, unless a way leads back to
+/// the return.
+pub fn last_calls_are_jumps()
+    ensures { LastCallsAreJumps }
+{
+    cells_stand();
+}
+
+/// The code of a program has at most as many cells as the header, EXECUTE and ABORT", a jump for each token, the library, the
+/// weight of the definitions and the code of the tokens.
+pub fn code_is_light()
+    ensures { CodeIsLight }
+{}

@@ -1,10 +1,10 @@
-//! The image of a program whose definitions have structures: its cells, the code that lays them out, and the law that the open
-//! machine does on it what the source means.
+//! The image of a program with a library: its cells, the code that lays them out, and the law that the open machine does on it
+//! what the source means.
 //!
-//! `Layout` in `specs/` gives the image, and `lay_out` makes it: the sizes of items give where each definition begins, and then
-//! the cells of each item are added at the end of the code. `Built` says which programs have an image so far, `Agreement`
-//! what the open machine and the source have to do with each other, and `Chip` what follows on the chip. The laws are functions
-//! that only call the laws that they stand on.
+//! `Layout` in `specs/` gives the image, and `lay_out` makes it: the sizes of items give where each routine begins, and then the
+//! cells of each item are added at the end of the code. `Built` says which programs have an image, `Numbering` and `Library` what
+//! a library is and what its bodies have to mean, `Agreement` what the open machine and the source have to do with each other, and
+//! `Chip` what follows on the chip. The laws are functions that only call the laws that they stand on.
 #![tactic(auto)]
 
 mod cells;
@@ -12,7 +12,11 @@ mod emission;
 mod laws;
 mod layout;
 mod parts;
+mod places;
+mod reach;
 mod sizes;
+mod tokens;
 
-pub use laws::{chips_agree, images_agree};
+pub use cells::tail_jump;
+pub use laws::{chips_agree, code_is_light, images_agree, last_calls_are_jumps};
 pub use layout::lay_out;

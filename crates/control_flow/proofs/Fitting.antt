@@ -165,6 +165,7 @@ read_program_fits n at many name tokens e =
       leaves_in_loops = alone (leaves_fit false) many.nodes fits.leaves;
       words_allowed = alone (everywhere may_stand) many.nodes fits.words;
       tokens_allowed = refl;
+      data_start = record { is_even = refl; at_least = omega arith; at_most = omega arith };
       space_fits = omega arith;
     }
 

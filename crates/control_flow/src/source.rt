@@ -52,6 +52,7 @@ fn program_with(alloc: Global, name: &str, items: Items, tokens: u32) -> Result<
             bodies,
             main: DefId(0),
             tokens: Vec::new(alloc),
+            data_start: 8192,
             space,
             source_tokens: tokens,
         },

@@ -1,16 +1,17 @@
 -- What a word step, and so a run, does to the world.
 use Rattle.std.proofs.Common.{ℕ, zero, suc, Bool, true, false, if◌then◌else◌, Option, Some, None, List, [], ◌∷◌}
+use Rattle.std.specs.Prelude.{◌==◌}
 use Rattle.cell_math.specs.Cell.{difference_of, signed}
 use Rattle.word_table.specs.declared.word.Word.{Word}
 use Rattle.word_table.specs.declared.word.Word.TheVariants.{ToR, RFrom, RFetch, Index, OuterIndex, Unloop, Execute}
 use Rattle.forth_program.specs.declared.item.TextKind.{TextKind}
 use Rattle.forth_program.specs.declared.item.TextKind.TheVariants as text
-use Rattle.forth_program.specs.Tree.{Node, Nodes}
+use Rattle.forth_program.specs.Tree.{Node, Nodes, Arms}
 use Rattle.forth_program.specs.State.{Entry, Cell, Loop, Work, Frame, World, State, Reply, Gives, Stops, ◌▸◌, Halted, Outcome, Goes, Ends}
 use Rattle.forth_program.specs.Program.{SourceProgram, token_of}
 use Rattle.forth_program.specs.ByteWords.{type_out}
 use Rattle.forth_program.specs.Meaning.{meaning}
-use Rattle.forth_program.specs.Step.{First, BodyEnd, IsLiteral, IsWord, IsCall, IsChild, IsText, IsIf, IsTrueEnd, IsUntil, IsWhile, IsRepeat, IsDo, IsTurn, IsLeave, IsExit, first, on_cells, with_token, word_step, text_step, left, on_flag, loop_begins, crosses, turned, turn, leave, act, step}
+use Rattle.forth_program.specs.Step.{First, BodyEnd, IsLiteral, IsWord, IsCall, IsChild, IsText, IsIf, IsTrueEnd, IsUntil, IsWhile, IsRepeat, IsAgain, IsDo, IsQDo, IsTurn, IsOf, IsEndOf, IsEndCase, IsLeave, IsExit, first, on_cells, with_token, word_step, text_step, left, on_flag, loop_begins, loop_may_begin, of_chooses, case_ends, crosses, turned, turn, leave, act, step}
 use Rattle.forth_program.specs.Run.{and_then, steps, world_of}
 use Rattle.forth_program.specs.RunLaws.{IsLater}
 use Rattle.forth_program.proofs.WordGrowth.{same, later_later, after, bind, type_later, meaning_later}
@@ -75,6 +76,20 @@ either_later : (w : World) (b : Bool) (x y : State) → IsLater w x.world → Is
 either_later w true x y h k = h
 either_later w false x y h k = k
 
+may_begin_later : (body : Nodes) (plus : Bool) (work : List Work) (c : List ℕ) (s : State) → IsLater s.world (world_of (loop_may_begin body plus work c s))
+may_begin_later body plus work [] s = same s.world
+may_begin_later body plus work (x ∷ []) s = same s.world
+may_begin_later body plus work (x ∷ y ∷ c) s = either_later s.world (y == x) _ _ (same s.world) (same s.world)
+
+chooses_later : (body : Nodes) (others : Arms) (rest : Nodes) (work : List Work) (c : List ℕ) (s : State) → IsLater s.world (world_of (of_chooses body others rest work c s))
+chooses_later body others rest work [] s = same s.world
+chooses_later body others rest work (x ∷ []) s = same s.world
+chooses_later body others rest work (x ∷ y ∷ c) s = either_later s.world (x == y) _ _ (same s.world) (same s.world)
+
+case_later : (work : List Work) (c : List ℕ) (s : State) → IsLater s.world (world_of (case_ends work c s))
+case_later work [] s = same s.world
+case_later work (x ∷ c) s = same s.world
+
 turned_later : (n : ℕ) (body : Nodes) (plus : Bool) (work : List Work) (entries : List Entry) (s : State) → IsLater s.world (world_of (turned n body plus work entries s))
 turned_later n body plus work [] s = same s.world
 turned_later n body plus work (Cell x ∷ entries) s = same s.world
@@ -104,8 +119,13 @@ act_later p (IsTrueEnd work) s = same s.world
 act_later p (IsUntil body work) s = flag_later s.cells _ _ s
 act_later p (IsWhile test body work) s = flag_later s.cells _ _ s
 act_later p (IsRepeat test body work) s = same s.world
+act_later p (IsAgain body work) s = same s.world
 act_later p (IsDo body plus work) s = begins_later body plus work s.cells s
+act_later p (IsQDo body plus work) s = may_begin_later body plus work s.cells s
 act_later p (IsTurn body plus work) s = turn_later body plus work s.cells s
+act_later p (IsOf body others rest work) s = chooses_later body others rest work s.cells s
+act_later p (IsEndOf work) s = same s.world
+act_later p (IsEndCase work) s = case_later work s.cells s
 act_later p (IsLeave work) s = leave_later work s.entries s
 
 step_later : (p : SourceProgram) (s : State) → IsLater s.world (world_of (step p s))

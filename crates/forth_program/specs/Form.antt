@@ -1,12 +1,18 @@
 -- What holds of each program.
-use Rattle.std.specs.Prelude.{◌≡◌, ℕ, ◌<◌, ◌≤◌, nat_lt, Bool, true, false, ◌&&◌, length, IsTrue}
+use Rattle.std.specs.Prelude.{◌≡◌, ℕ, ◌-◌, ◌%◌, ◌<◌, ◌≤◌, nat_lt, Bool, true, false, ◌&&◌, length, IsTrue}
 use Rattle.std.specs.List.{list_all}
 use Rattle.word_table.specs.declared.word.Word.TheVariants.{ToR, RFrom, RFetch, Index, OuterIndex, Unloop, Execute}
 use Rattle.word_table.specs.declared.word.Class.{Class}
 use Rattle.word_table.specs.declared.word.Class.TheVariants as class
 use Rattle.word_table.specs.Table.{entry_of}
-use Rattle.forth_program.specs.Tree.{Node, Nodes, Plain, Call, Child, If, Until, While, Do, Leave, Empty, Then}
+use Rattle.forth_program.specs.Tree.{Node, Nodes, Arms, Plain, Call, Child, If, Until, While, Again, Do, QDo, Case, Leave, Empty, Then, NoArm, Arm}
 use Rattle.forth_program.specs.Program.{SourceProgram}
+
+-- a byte address at which data space may begin
+pub record IsDataStart (data_start : ℕ) : Type 0 where
+  pub is_even : data_start % 2 ≡ 0
+  pub at_least : 4096 ≤ data_start
+  pub at_most : data_start ≤ 16000
 
 -- whether a test holds of every item, also in structures
 abbrev mutual
@@ -18,8 +24,15 @@ abbrev mutual
   inside test (If first second) = everywhere test first && everywhere test second
   inside test (Until body) = everywhere test body
   inside test (While first second) = everywhere test first && everywhere test second
+  inside test (Again body) = everywhere test body
   inside test (Do body plus) = everywhere test body
+  inside test (QDo body plus) = everywhere test body
+  inside test (Case arms rest) = in_arms test arms && everywhere test rest
   inside test node = true
+
+  pub in_arms : (Node → Bool) → Arms → Bool
+  in_arms test NoArm = true
+  in_arms test (Arm tests body others) = everywhere test tests && everywhere test body && in_arms test others
 
 -- whether the definition that an item names is one of so many
 abbrev pub has_id_below : ℕ → Node → Bool
@@ -50,7 +63,7 @@ may_be_token (Plain Execute) = false
 may_be_token (Plain word) = is_code_class ((entry_of word).class)
 may_be_token node = true
 
--- whether each LEAVE stands inside a DO, where these items stand inside one or not
+-- whether each LEAVE stands inside a DO or a ?DO, where these items stand inside one or not
 abbrev mutual
   pub leaves_fit : Bool → Nodes → Bool
   leaves_fit in_do Empty = true
@@ -61,8 +74,15 @@ abbrev mutual
   leave_fits in_do (If first second) = leaves_fit in_do first && leaves_fit in_do second
   leave_fits in_do (Until body) = leaves_fit in_do body
   leave_fits in_do (While first second) = leaves_fit in_do first && leaves_fit in_do second
+  leave_fits in_do (Again body) = leaves_fit in_do body
   leave_fits in_do (Do body plus) = leaves_fit true body
+  leave_fits in_do (QDo body plus) = leaves_fit true body
+  leave_fits in_do (Case arms rest) = arms_fit in_do arms && leaves_fit in_do rest
   leave_fits in_do node = true
+
+  pub arms_fit : Bool → Arms → Bool
+  arms_fit in_do NoArm = true
+  arms_fit in_do (Arm tests body others) = leaves_fit in_do tests && leaves_fit in_do body && arms_fit in_do others
 
 -- the condition on the parts of a program
 pub record IsProgram (p : SourceProgram) : Type 0 where
@@ -76,4 +96,5 @@ pub record IsProgram (p : SourceProgram) : Type 0 where
   pub leaves_in_loops : IsTrue (list_all (leaves_fit false) p.bodies)
   pub words_allowed : IsTrue (list_all (everywhere may_stand) p.bodies)
   pub tokens_allowed : IsTrue (list_all may_be_token p.tokens)
-  pub space_fits : length p.first_space ≤ 8192
+  pub data_start : IsDataStart p.data_start
+  pub space_fits : length p.first_space ≤ 0x4000 - p.data_start

@@ -6,8 +6,10 @@ pub mod PicturedOutput
 pub mod Meaning
 pub mod Program
 pub mod Step
+pub mod Tail
 pub mod Run
 pub mod Price
+pub mod Weight
 pub mod RunLaws
 pub mod ItemTrees
 pub mod TreeLaws

@@ -21,7 +21,7 @@ program_of parts = record {
   bodies = map tree_of (parts.bodies.items);
   main_body = parts.main.0;
   tokens = map token_node (parts.tokens.items);
-  data_start = 8192;
+  data_start = parts.data_start;
   first_space = parts.space.items;
   source_tokens = parts.source_tokens;
 }

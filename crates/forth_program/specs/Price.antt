@@ -10,7 +10,7 @@ use Rattle.forth_program.specs.State.{World, State, Outcome, Goes, Ends}
 use Rattle.forth_program.specs.Access.{base}
 use Rattle.forth_program.specs.ByteWords.{positive, accept_begins, number_begins, begun_by}
 use Rattle.forth_program.specs.Program.{SourceProgram}
-use Rattle.forth_program.specs.Step.{First, IsLiteral, IsWord, IsChild, IsText, IsDo, IsTurn, IsLeave, first, step}
+use Rattle.forth_program.specs.Step.{First, IsLiteral, IsWord, IsChild, IsText, IsDo, IsQDo, IsTurn, IsOf, IsLeave, first, step}
 use Rattle.forth_program.specs.Run.{first_state}
 
 -- how often a word does what it is priced for: the whole count, and for input and numbers the bytes begun
@@ -46,9 +46,11 @@ first_price (IsWord word after) c w = word_price word c w
 first_price (IsChild definition address after) c w = 2
 first_price (IsText kind address size after) c w = text_price kind size c
 first_price (IsDo body plus after) c w = 8
+first_price (IsQDo body plus after) c w = 12
 first_price (IsTurn body plus after) c w = turn_price plus
+first_price (IsOf body others rest after) c w = 4
 first_price (IsLeave after) c w = 5
--- a call, a decision, the end of a true branch, REPEAT, EXIT and the end of a body
+-- a call, a decision, the end of a true branch, REPEAT, AGAIN, ENDOF, ENDCASE, EXIT and the end of a body
 first_price first c w = 1
 
 -- of the next step

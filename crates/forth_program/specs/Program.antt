@@ -3,7 +3,7 @@ use Rattle.std.specs.Prelude.{ℕ, zero, suc, List, Option, None, slice_get, sli
 use Rattle.std.specs.List.{list_any}
 use Rattle.word_table.specs.declared.word.Word.{Word}
 use Rattle.word_table.specs.declared.word.Word.TheVariants.{Depth}
-use Rattle.forth_program.specs.Tree.{Node, Nodes, Plain, If, Until, While, Do, Empty, Then}
+use Rattle.forth_program.specs.Tree.{Node, Nodes, Arms, Plain, If, Until, While, Again, Do, QDo, Case, Empty, Then, NoArm, Arm}
 
 -- the names and the bodies in the order of the definitions; which body is that of MAIN; what each execution token stands
 -- for, token 1 first; the byte address of data space and its first bytes; and how many tokens the source had
@@ -37,12 +37,19 @@ abbrev mutual
   depth_in (If first second) = depth_within first || depth_within second
   depth_in (Until body) = depth_within body
   depth_in (While test body) = depth_within test || depth_within body
+  depth_in (Again body) = depth_within body
   depth_in (Do body plus) = depth_within body
+  depth_in (QDo body plus) = depth_within body
+  depth_in (Case arms rest) = depth_in_arms arms || depth_within rest
   depth_in node = false
 
   pub depth_within : Nodes → Bool
   depth_within Empty = false
   depth_within (Then node rest) = depth_in node || depth_within rest
+
+  pub depth_in_arms : Arms → Bool
+  depth_in_arms NoArm = false
+  depth_in_arms (Arm tests body others) = depth_within tests || depth_within body || depth_in_arms others
 
 -- whether it stands in a body or among the tokens
 abbrev pub uses_depth : SourceProgram → Bool

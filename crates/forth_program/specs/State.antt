@@ -1,6 +1,6 @@
 -- The state of a source run: frames, data cells and the world, all of them unbounded lists.
 use Rattle.std.specs.Prelude.{ℕ, List, Bool}
-use Rattle.forth_program.specs.Tree.{Node, Nodes}
+use Rattle.forth_program.specs.Tree.{Node, Nodes, Arms}
 
 -- an entry of a frame's return stack: one cell, or one loop with its limit and its index
 -- (ANS Forth, sections 3.2.3.3 and 3.1.5.2)
@@ -8,7 +8,7 @@ pub data Entry : Type 0 where
   Cell : (value : ℕ) → Entry
   Loop : (limit index : ℕ) → Entry
 
--- what a frame still has to do: an item, or one of five marks, each with the loop that it belongs to
+-- what a frame still has to do: an item, or one of nine marks, each with the loop or the case that it belongs to
 pub data Work : Type 0 where
   Todo : (node : Node) → Work
   -- the end of a true branch, which a false branch follows
@@ -16,8 +16,13 @@ pub data Work : Type 0 where
   UntilTest : (body : Nodes) → Work
   WhileTest : (test body : Nodes) → Work
   Repeat : (test body : Nodes) → Work
+  BeginAgain : (body : Nodes) → Work
   -- the turn of a DO loop, which ends by +LOOP where the flag is true
   Turn : (body : Nodes) (plus : Bool) → Work
+  -- OF with its body and the rest of its case
+  OfTest : (body : Nodes) (others : Arms) (rest : Nodes) → Work
+  EndOf : Work
+  EndCase : Work
 
 -- a definition that was called: its work, the next first, and its return entries, the newest first
 pub record Frame : Type 0 where

@@ -1,13 +1,13 @@
 -- One word step: the first work of the newest frame.
 use Rattle.std.specs.Prelude.{ℕ, zero, suc, Bool, true, false, ◌&&◌, ◌||◌, if◌then◌else◌, List, [], ◌∷◌, Option, Some, None}
-use Rattle.std.specs.Prelude.{ℤ, pos, ◌+ℤ◌, int_lt, int_le}
+use Rattle.std.specs.Prelude.{◌==◌, ℤ, pos, ◌+ℤ◌, int_lt, int_le}
 use Rattle.word_table.specs.declared.word.Word.{Word}
 use Rattle.word_table.specs.declared.word.Word.TheVariants.{ToR, RFrom, RFetch, Index, OuterIndex, Unloop, Execute}
 use Rattle.cell_math.specs.Cell.{sum_of, difference_of, signed}
 use Rattle.forth_program.specs.declared.item.TextKind.{TextKind}
 use Rattle.forth_program.specs.declared.item.TextKind.TheVariants as text
-use Rattle.forth_program.specs.Tree.{Node, Nodes, Literal, Plain, Call, Child, Text, If, Until, While, Do, Leave, Exit, Empty, Then}
-use Rattle.forth_program.specs.State.{Entry, Cell, Loop, Work, Todo, TrueEnd, UntilTest, WhileTest, Repeat, Turn, Frame, State, Reply, Gives, Stops, ◌▸◌, Outcome, Goes, Ends, Halted, Underflow, Unbalanced}
+use Rattle.forth_program.specs.Tree.{Node, Nodes, Arms, Literal, Plain, Call, Child, Text, If, Until, While, Again, Do, QDo, Case, Leave, Exit, Empty, Then, NoArm, Arm}
+use Rattle.forth_program.specs.State.{Entry, Cell, Loop, Work, Todo, TrueEnd, UntilTest, WhileTest, Repeat, BeginAgain, Turn, OfTest, EndOf, EndCase, Frame, State, Reply, Gives, Stops, ◌▸◌, Outcome, Goes, Ends, Halted, Underflow, Unbalanced}
 use Rattle.forth_program.specs.Program.{SourceProgram, body_of, token_of}
 use Rattle.forth_program.specs.ByteWords.{type_out}
 use Rattle.forth_program.specs.Meaning.{meaning}
@@ -32,8 +32,13 @@ pub data First : Type 0 where
   IsUntil : (body : Nodes) (after : List Work) → First
   IsWhile : (test body : Nodes) (after : List Work) → First
   IsRepeat : (test body : Nodes) (after : List Work) → First
+  IsAgain : (body : Nodes) (after : List Work) → First
   IsDo : (body : Nodes) (plus : Bool) (after : List Work) → First
+  IsQDo : (body : Nodes) (plus : Bool) (after : List Work) → First
   IsTurn : (body : Nodes) (plus : Bool) (after : List Work) → First
+  IsOf : (body : Nodes) (others : Arms) (rest : Nodes) (after : List Work) → First
+  IsEndOf : (after : List Work) → First
+  IsEndCase : (after : List Work) → First
   IsLeave : (after : List Work) → First
   IsExit : First
 
@@ -48,7 +53,10 @@ abbrev mutual
   first_in (If first second) after = IsIf first second after
   first_in (Until body) after = first_among body (IsUntil body after) (UntilTest body ∷ after)
   first_in (While test body) after = first_among test (IsWhile test body after) (WhileTest test body ∷ after)
+  first_in (Again body) after = first_among body (IsAgain body after) (BeginAgain body ∷ after)
   first_in (Do body plus) after = IsDo body plus after
+  first_in (QDo body plus) after = IsQDo body plus after
+  first_in (Case arms rest) after = first_of_case arms rest (first_among rest (IsEndCase after) (EndCase ∷ after)) after
   first_in Leave after = IsLeave after
   first_in Exit after = IsExit
 
@@ -56,6 +64,11 @@ abbrev mutual
   pub first_among : Nodes → First → List Work → First
   first_among Empty else_first after = else_first
   first_among (Then node rest) else_first after = first_in node (before rest after)
+
+  -- a case begins with the tests of its first arm, or with what is first where it has no arm
+  pub first_of_case : Arms → Nodes → First → List Work → First
+  first_of_case NoArm rest else_first after = else_first
+  first_of_case (Arm tests body others) rest else_first after = first_among tests (IsOf body others rest after) (OfTest body others rest ∷ after)
 
 -- the first of the work
 abbrev pub first : List Work → First
@@ -65,7 +78,11 @@ first (TrueEnd ∷ after) = IsTrueEnd after
 first (UntilTest body ∷ after) = IsUntil body after
 first (WhileTest test body ∷ after) = IsWhile test body after
 first (Repeat test body ∷ after) = IsRepeat test body after
+first (BeginAgain body ∷ after) = IsAgain body after
 first (Turn body plus ∷ after) = IsTurn body plus after
+first (OfTest body others rest ∷ after) = IsOf body others rest after
+first (EndOf ∷ after) = IsEndOf after
+first (EndCase ∷ after) = IsEndCase after
 
 -- ---- words
 
@@ -140,6 +157,23 @@ loop_begins body plus after (start ∷ limit ∷ c) s =
     Goes (record s { work = before body (Turn body plus ∷ after); entries = Loop limit start ∷ s.entries; cells = c })
 loop_begins body plus after c s = Ends Underflow s.world
 
+-- ?DO leaves the loop out where they are equal
+abbrev pub loop_may_begin : Nodes → Bool → List Work → List ℕ → State → Outcome
+loop_may_begin body plus after (start ∷ limit ∷ c) s =
+    if limit == start then Goes (record s { work = after; cells = c }) else loop_begins body plus after (start ∷ limit ∷ c) s
+loop_may_begin body plus after c s = Ends Underflow s.world
+
+-- OF takes a cell, and where it equals the next takes that too and does its body; else the rest of the case is left
+abbrev pub of_chooses : Nodes → Arms → Nodes → List Work → List ℕ → State → Outcome
+of_chooses body others rest after (x ∷ y ∷ c) s =
+    if x == y then Goes (record s { work = before body (EndOf ∷ after); cells = c }) else Goes (record s { work = Todo (Case others rest) ∷ after; cells = y ∷ c })
+of_chooses body others rest after c s = Ends Underflow s.world
+
+-- ENDCASE drops a cell
+abbrev pub case_ends : List Work → List ℕ → State → Outcome
+case_ends after [] s = Ends Underflow s.world
+case_ends after (x ∷ c) s = Goes (record s { work = after; cells = c })
+
 -- x is the signed view of index minus limit, and s the step: the boundary between limit - 1 and limit is crossed
 abbrev pub crosses : ℤ → ℤ → Bool
 crosses x s =
@@ -185,8 +219,13 @@ act p (IsTrueEnd after) s = Goes (record s { work = after })
 act p (IsUntil body after) s = on_flag s.cells (before body (UntilTest body ∷ after)) after s
 act p (IsWhile test body after) s = on_flag s.cells after (before body (Repeat test body ∷ after)) s
 act p (IsRepeat test body after) s = Goes (record s { work = before test (WhileTest test body ∷ after) })
+act p (IsAgain body after) s = Goes (record s { work = before body (BeginAgain body ∷ after) })
 act p (IsDo body plus after) s = loop_begins body plus after s.cells s
+act p (IsQDo body plus after) s = loop_may_begin body plus after s.cells s
 act p (IsTurn body plus after) s = turn body plus after s.cells s
+act p (IsOf body others rest after) s = of_chooses body others rest after s.cells s
+act p (IsEndOf after) s = Goes (record s { work = after })
+act p (IsEndCase after) s = case_ends after s.cells s
 act p (IsLeave after) s = leave after s.entries s
 
 -- one word step

@@ -18,14 +18,25 @@ mutual
     -- BEGIN body UNTIL, and BEGIN test WHILE body REPEAT
     Until : (body : Nodes) → Node
     While : (test body : Nodes) → Node
+    -- BEGIN body AGAIN
+    Again : (body : Nodes) → Node
     -- DO body LOOP, or +LOOP where the flag is true
     Do : (body : Nodes) (plus : Bool) → Node
+    -- the same by ?DO, which leaves the loop out where limit and start are equal
+    QDo : (body : Nodes) (plus : Bool) → Node
+    -- CASE with its arms, and then items and ENDCASE
+    Case : (arms : Arms) (rest : Nodes) → Node
     Leave : Node
     Exit : Node
 
   pub data Nodes : Type 0 where
     Empty : Nodes
     Then : (node : Node) (rest : Nodes) → Nodes
+
+  -- the arms of a CASE: each has tests, OF, a body and ENDOF
+  pub data Arms : Type 0 where
+    NoArm : Arms
+    Arm : (tests body : Nodes) (others : Arms) → Arms
 
 -- one list of items after another
 abbrev pub joined : Nodes → Nodes → Nodes

@@ -1,9 +1,9 @@
 // Whether the word DEPTH stands in items and tokens.
 ghost use Rattle.std.specs.Prelude.{◌≡◌, map};
 ghost use Rattle.std.specs.List.{list_any};
-ghost use Rattle.forth_program.specs.ItemTrees.{node_of, nodes_of, tree_of};
+ghost use Rattle.forth_program.specs.ItemTrees.{node_of, nodes_of, tree_of, arms_tree};
 ghost use Rattle.forth_program.specs.Parts.{token_node};
-ghost use Rattle.forth_program.specs.Program.{depth_in, depth_within, is_depth_word};
+ghost use Rattle.forth_program.specs.Program.{depth_in, depth_in_arms, depth_within, is_depth_word};
 
 use crate::item::{Item, Items};
 use crate::program::Token;
@@ -11,7 +11,7 @@ use word_table::Word;
 
 /// Whether it stands in an item.
 #[cycle(depth)]
-#[tactic(auto, using(crate::proofs::Views::depth_If, crate::proofs::Views::depth_Until, crate::proofs::Views::depth_While, crate::proofs::Views::depth_Do))]
+#[tactic(auto, using(crate::proofs::Views::depth_If, crate::proofs::Views::depth_Until, crate::proofs::Views::depth_While, crate::proofs::Views::depth_Again, crate::proofs::Views::depth_Do, crate::proofs::Views::depth_QDo, crate::proofs::Views::depth_Case))]
 fn has_depth(item: &Item) -> bool
     ensures { result ≡ depth_in (node_of item.now) }
 {
@@ -20,7 +20,10 @@ fn has_depth(item: &Item) -> bool
         Item::If(first, second) => have_depth(first.list()) | have_depth(second.list()),
         Item::Until(body) => have_depth(body.list()),
         Item::While(test, body) => have_depth(test.list()) | have_depth(body.list()),
+        Item::Again(body) => have_depth(body.list()),
         Item::Do(body, _) => have_depth(body.list()),
+        Item::QDo(body, _) => have_depth(body.list()),
+        Item::Case(arms, rest) => arms_have_depth(arms.list()) | have_depth(rest.list()),
         Item::Literal(_) => false,
         Item::Call(_) => false,
         Item::Child(_, _) => false,
@@ -46,6 +49,19 @@ fn have_depth(items: &[Item]) -> bool
 {
     for item in items {
         if has_depth(item) {
+            return true;
+        }
+    }
+    false
+}
+
+/// Whether it stands in one of these arms.
+#[cycle(depth)]
+fn arms_have_depth(arms: &[(Items, Items)]) -> bool
+    ensures { result ≡ depth_in_arms (arms_tree arms.now) }
+{
+    for arm in arms {
+        if have_depth(arm.0.list()) | have_depth(arm.1.list()) {
             return true;
         }
     }

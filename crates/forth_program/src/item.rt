@@ -1,6 +1,6 @@
 // Items of Forth source, and lists of them.
 ghost use Rattle.std.specs.Prelude.{◌≡◌, [], ◌∷◌, ◌++◌, length, IfErr, OnOk, OnErr};
-ghost use Rattle.forth_program.specs.ItemTrees.{items_of};
+ghost use Rattle.forth_program.specs.ItemTrees.{items_of, arms_of};
 
 use std::alloc::{AllocError, Global};
 use word_table::Word;
@@ -40,8 +40,14 @@ pub enum Item {
     Until(Items),
     /// `BEGIN` test `WHILE` body `REPEAT`.
     While(Items, Items),
+    /// `BEGIN` .. `AGAIN`.
+    Again(Items),
     /// `DO` .. `LOOP`, and with true `DO` .. `+LOOP`.
     Do(Items, bool),
+    /// The same with `?DO`.
+    QDo(Items, bool),
+    /// `CASE` with its arms, and the items between the last `ENDOF` and `ENDCASE`.
+    Case(Arms, Items),
     /// `LEAVE`.
     Leave,
     /// `EXIT`.
@@ -53,6 +59,13 @@ pub enum Item {
 #[cycle(tree)]
 pub struct Items {
     list: Vec<Item>,
+}
+
+/// The arms of a `CASE`, in the order of the source: the items before `OF`, and those between `OF` and `ENDOF`.
+#[derive(Drop)]
+#[cycle(tree)]
+pub struct Arms {
+    list: Vec<(Items, Items)>,
 }
 
 impl Items {
@@ -80,6 +93,36 @@ impl Items {
     /// The items, the first of the source first.
     pub fn list(&self) -> &[Item]
         ensures { result.now ≡ items_of self.now }
+    {
+        self.list.as_slice()
+    }
+}
+
+impl Arms {
+    /// No arms. It takes no memory before the first `push`.
+    pub fn new(alloc: Global) -> Arms
+        ensures { arms_of result ≡ [] }
+    {
+        Arms {
+            list: Vec::new(alloc),
+        }
+    }
+
+    /// Puts an arm at the end. Where there is no memory for it, nothing changes and the items are handed back.
+    pub fn push(&mut self, tests: Items, body: Items) -> Result<(), (AllocError, (Items, Items))>
+        ensures ok { OnOk result (arms_of self.new ≡ arms_of self.old ++ (tests, body) ∷ []) }
+        ensures err { OnErr result (arms_of self.new ≡ arms_of self.old) }
+        ensures handed_back { IfErr result (λ e. e.1 ≡ (tests, body)) }
+    {
+        match self.list.push((tests, body)) {
+            Ok(()) => Ok(()),
+            Err(arm) => Err((AllocError, arm.value)),
+        }
+    }
+
+    /// The arms, the first of the source first.
+    pub fn list(&self) -> &[(Items, Items)]
+        ensures { result.now ≡ arms_of self.now }
     {
         self.list.as_slice()
     }

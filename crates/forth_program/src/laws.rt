@@ -1,5 +1,5 @@
 // What holds of all trees of items, and of all runs.
-ghost use Rattle.forth_program.specs.TreeLaws.{IfTree, UntilTree, WhileTree, DoTree, TreesJoin};
+ghost use Rattle.forth_program.specs.TreeLaws.{IfTree, UntilTree, WhileTree, AgainTree, DoTree, QDoTree, CaseTree, TreesJoin};
 ghost use Rattle.forth_program.specs.RunLaws.{StepsCompose, EndStays, SpentAdds, WorldsGrow};
 
 /// The tree of a structure has the trees of its parts, and one list after another has the trees of both.
@@ -7,7 +7,10 @@ pub fn trees_have_parts()
     ensures if_tree { IfTree }
     ensures until_tree { UntilTree }
     ensures while_tree { WhileTree }
+    ensures again_tree { AgainTree }
     ensures do_tree { DoTree }
+    ensures q_do_tree { QDoTree }
+    ensures case_tree { CaseTree }
     ensures joined { TreesJoin }
 {}
 

@@ -11,7 +11,7 @@ mod laws;
 mod name;
 mod program;
 
-pub use item::{DefId, Item, Items, TextKind};
+pub use item::{Arms, DefId, Item, Items, TextKind};
 pub use laws::{prices_add, runs_compose, trees_have_parts, worlds_grow};
 pub use name::Name;
 pub use program::{Program, ProgramParts, Token};

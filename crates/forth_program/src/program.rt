@@ -1,6 +1,6 @@
 // Programs, and the parts from which one is made.
-ghost use Rattle.std.specs.Prelude.{◌≡◌, ◌<◌, ◌≤◌, map, length, slice_index_or, [], IfOk};
-ghost use Rattle.forth_program.specs.Form.{IsProgram};
+ghost use Rattle.std.specs.Prelude.{◌≡◌, ◌-◌, ◌<◌, ◌≤◌, map, length, slice_index_or, [], IfOk};
+ghost use Rattle.forth_program.specs.Form.{IsDataStart, IsProgram};
 ghost use Rattle.forth_program.specs.ItemTrees.{tree_of};
 ghost use Rattle.forth_program.specs.Parts.{program_of, token_node};
 ghost use Rattle.forth_program.specs.Program.{body_of, uses_depth as depth_is_used};
@@ -36,7 +36,9 @@ pub struct ProgramParts {
     pub main: DefId,
     /// What each execution token stands for, token 1 first.
     pub tokens: Vec<Token>,
-    /// The first bytes of data space, from the byte address 8192 on.
+    /// The byte address at which data space begins, even and from 4096 to 16000.
+    pub data_start: u16,
+    /// The first bytes of data space.
     pub space: Vec<u8>,
     /// The number of tokens of the source text.
     pub source_tokens: u32,
@@ -114,10 +116,18 @@ impl Program {
         self.parts.tokens.as_slice()
     }
 
-    /// The first bytes of data space, from the byte address 8192 on. Those that follow are 0.
+    /// The byte address at which data space begins.
+    pub fn data_start(&self) -> u16
+        ensures value { result ≡ self.now.data_start }
+        ensures form { IsDataStart result }
+    {
+        self.parts.data_start
+    }
+
+    /// The first bytes of data space. Those that follow are 0.
     pub fn space(&self) -> &[u8]
         ensures value { result.now ≡ self.now.first_space }
-        ensures bound { length result.now ≤ 8192 }
+        ensures bound { length result.now ≤ 0x4000 - self.now.data_start }
     {
         self.parts.space.as_slice()
     }

@@ -40,17 +40,17 @@ compiles text program e =
       | false ↦ λ same. cc
     ] e
 
-text_agrees : LinesAgree → EachProgramIsOneLine → (text input : List ℕ) (program : SourceProgram) → judged text ≡ Compiles program → AreBytes input → AgreesOnChip program input
+text_agrees : LinesAgree → EachProgramIsOneLine → (text input : List ℕ) (program : SourceProgram) → judged text ≡ Compiles program → AreBytes input → AgreesOnChip [] program input
 text_agrees agree lines text input program built bytes =
     let is = compiles text program built in
     agree program input (lines text program is.0) is.1 bytes
 
 pub compiled : LinesAgree → EachProgramIsOneLine → (text input : List ℕ) (program : SourceProgram) (steps : ℕ) (status : Status) (left left_now before now : Option (List ℕ)) →
     judged text ≡ Compiles program → left ≡ Some input →
-    IfSome left (λ input. RunLeaves (laid_out program) input steps status left_now before now) →
+    IfSome left (λ input. RunLeaves (laid_out [] program) input steps status left_now before now) →
     IsCompiled program input steps status left_now before now
 compiled agree lines text input program steps status left left_now before now built told run = record {
-  run = subst (λ l. IfSome l (λ input. RunLeaves (laid_out program) input steps status left_now before now)) told run;
+  run = subst (λ l. IfSome l (λ input. RunLeaves (laid_out [] program) input steps status left_now before now)) told run;
   agrees = text_agrees agree lines text input program built;
 }
 
@@ -85,9 +85,9 @@ front_told image input steps status left left_now before now told run refused =
 -- where the write of the note failed
 pub compiled_without_note : LinesAgree → EachProgramIsOneLine → (text input : List ℕ) (program : SourceProgram) (steps : ℕ) (status : Status) (left left_now before now : Option (List ℕ)) →
     judged text ≡ Compiles program → left ≡ Some input →
-    IfSome left (λ input. RunLeaves (laid_out program) input steps status left_now before now) → (IsRefusal status → now ≡ before) →
+    IfSome left (λ input. RunLeaves (laid_out [] program) input steps status left_now before now) → (IsRefusal status → now ≡ before) →
     IsCompiled program input steps WriteFault left_now before now
 compiled_without_note agree lines text input program steps status left left_now before now built told run refused = record {
-  run = record { ran = λ answered. absurd answered; broke_off = λ fault. front_told (laid_out program) input steps status left left_now before now told run refused };
+  run = record { ran = λ answered. absurd answered; broke_off = λ fault. front_told (laid_out [] program) input steps status left left_now before now told run refused };
   agrees = text_agrees agree lines text input program built;
 }

@@ -14,7 +14,7 @@ use Rattle.forth_program.specs.Step.{before, first, on_cells, word_step, step, I
 use Rattle.forth_program.specs.Run.{steps}
 use Rattle.control_flow.specs.SourceLaw.{IsLine}
 use Rattle.word_laws.specs.Words.{is_inline, stands_plain, finds_entries, lacks, NeedsAreExact, ChangesBy, LeavesBy, WordsChangeDepths}
-use Rattle.code_layout.specs.Stacks.{return_height, peak_of, back_of, DepthFits}
+use Rattle.code_layout.specs.Stacks.{return_height, peak_of, back_of, execute_back, DepthFits}
 use Rattle.j1_workbench.specs.Certificate.{changed, keeps_limits, goes_on, walks}
 use Rattle.j1_workbench.proofs.Walking.{both}
 
@@ -23,15 +23,16 @@ abbrev pub main_state : Nodes → List ℕ → World → State
 main_state nodes c w = record { work = before nodes []; entries = []; callers = []; cells = c; world = w }
 
 -- the stacks of a state and of its step fit the chip
-pub record FitsChip (s : State) : Type 0 where
+pub record FitsChip (p : SourceProgram) (s : State) : Type 0 where
   pub data_cells : length s.cells + peak_of s.callers (first s.work) ≤ 33
   pub return_cells : return_height s + back_of (first s.work) ≤ 32
+  pub below_item : return_height s + execute_back p (first s.work) s.cells ≤ 32
   pub depth : DepthFits (first s.work) s.cells
 
 -- k word steps
 pub record GoesThrough (p : SourceProgram) (k : ℕ) (s : State) : Type 0 where
   pub lacks_nothing : lacks (steps p k s) ≡ false
-  pub fits : (j : ℕ) (state : State) → j < k → steps p j s ≡ Goes state → FitsChip state
+  pub fits : (j : ℕ) (state : State) → j < k → steps p j s ≡ Goes state → FitsChip p state
 
 goes_is : (s after : State) → Goes s ≡ Goes after → s ≡ after
 goes_is s after e = cc
@@ -54,11 +55,11 @@ module _ (p : SourceProgram) (s : State) where
   nothing_yet : GoesThrough p zero s
   nothing_yet = record { lacks_nothing = ap lacks steps_none; fits = λ j state early e. absurd (omega arith) }
 
-  fits_here : (k : ℕ) → FitsChip s → ((j : ℕ) (state : State) → j < k → steps p (suc j) s ≡ Goes state → FitsChip state) → (j : ℕ) (state : State) → j < suc k → steps p j s ≡ Goes state → FitsChip state
-  fits_here k now later zero state early e = subst FitsChip (goes_is s state (sym steps_none ∙ e)) now
+  fits_here : (k : ℕ) → FitsChip p s → ((j : ℕ) (state : State) → j < k → steps p (suc j) s ≡ Goes state → FitsChip p state) → (j : ℕ) (state : State) → j < suc k → steps p j s ≡ Goes state → FitsChip p state
+  fits_here k now later zero state early e = subst (FitsChip p) (goes_is s state (sym steps_none ∙ e)) now
   fits_here k now later (suc j) state early e = later j state (omega arith) e
 
-  then_through : (k : ℕ) (o : Outcome) → step p s ≡ o → lacks o ≡ false → FitsChip s → ((after : State) → o ≡ Goes after → GoesThrough p k after) → GoesThrough p (suc k) s
+  then_through : (k : ℕ) (o : Outcome) → step p s ≡ o → lacks o ≡ false → FitsChip p s → ((after : State) → o ≡ Goes after → GoesThrough p k after) → GoesThrough p (suc k) s
   then_through k (Goes after) e sound now later =
       let g = later after refl in
       record {
@@ -101,6 +102,10 @@ inline_step p Unloop c s e = cc
 inline_step p Execute c s e = cc
 inline_step p word c s e = refl
 
+no_item : (p : SourceProgram) (word : Word) (rest : Nodes) (c : List ℕ) → (entry_of word).class ≡ class.Inline → execute_back p (IsWord word (before rest [])) c ≡ 0
+no_item p Execute rest c e = cc
+no_item p word rest c e = refl
+
 state_is : (reply : Reply (List ℕ)) (rest : Nodes) (c : List ℕ) (w : World) (after : State) → on_cells reply (main_state rest c w) ≡ Goes after → main_state rest after.cells after.world ≡ after
 state_is (Gives cells world) rest c w after e = subst (λ a. main_state rest a.cells a.world ≡ a) (goes_is (main_state rest cells world) after e) refl
 state_is (Stops end world) rest c w after e = cc
@@ -137,14 +142,14 @@ module _ (needs : NeedsAreExact) (depths : WordsChangeDepths) (p : SourceProgram
   goes_through nodes zero c w line walked = nothing_yet p (main_state nodes c w)
   goes_through Empty (suc k) c w line walked =
       let few : length c ≤ 31 = grind (arith, nat_tests) in
-      then_through p (main_state Empty c w) k (Ends (Halted 0) w) (body_ends p c w) refl (record { data_cells = omega arith; return_cells = omega arith; depth = tt }) (λ state e. cc)
+      then_through p (main_state Empty c w) k (Ends (Halted 0) w) (body_ends p c w) refl (record { data_cells = omega arith; return_cells = omega arith; below_item = omega arith; depth = tt }) (λ state e. cc)
   goes_through (Then (Literal value) rest) (suc k) c w line walked =
       let tests = both (nat_le (length c + 1) most) (walks most rest (length c + 1)) walked in
       let room : length c + 1 ≤ 33 = let h = tests.0 in grind (arith, nat_tests) in
       let more : suc (length c) ≡ length c + 1 = omega arith in
       let after = main_state rest (value ∷ c) w in
       then_through p (main_state (Then (Literal value) rest) c w) k (Goes after) (number_steps p value rest c w) refl
-      (record { data_cells = room; return_cells = omega arith; depth = tt })
+      (record { data_cells = room; return_cells = omega arith; below_item = omega arith; depth = tt })
       (λ state e. subst (GoesThrough p k) (goes_is after state e) (goes_through rest k (value ∷ c) w line.1 (ap (walks most rest) more ∙ tests.1)))
   goes_through (Then (Plain word) rest) (suc k) c w line walked =
       let entry = entry_of word in
@@ -158,7 +163,7 @@ module _ (needs : NeedsAreExact) (depths : WordsChangeDepths) (p : SourceProgram
       let plain = inline_plain word line.0 in
       then_through p (main_state (Then (Plain word) rest) c w) k (word_step p word c [] done) (word_steps p word rest c w)
       ((needs p word c [] done plain).1 (need, inline_finds word line.0))
-      (record { data_cells = peak; return_cells = omega arith; depth = depth_fits word rest c peak })
+      (record { data_cells = peak; return_cells = omega arith; below_item = omega (arith, no_item p word rest c line.0); depth = depth_fits word rest c peak })
       (λ state e.
       let left = walked_on entry.exit (walks most rest) (length c) (length state.cells) (depths p word done state plain e) tests.1 in
       subst (GoesThrough p k) (state_is (meaning word c w) rest c w state (sym (inline_step p word c done line.0) ∙ e)) (goes_through rest k state.cells state.world line.1 left))

@@ -1,5 +1,5 @@
 -- When the workbench gives which answer.
-use Rattle.std.specs.Prelude.{◌≡◌, ◌⊎◌, ℕ, Bool, true, false, List, Option, Some, None, option_map, Result, Ok, Err, ⊤}
+use Rattle.std.specs.Prelude.{[], ◌≡◌, ◌⊎◌, ℕ, Bool, true, false, List, Option, Some, None, option_map, Result, Ok, Err, ⊤}
 use Rattle.std.specs.Io.KnownBytes.{Appends}
 use Rattle.outside_io.specs.Bytes.{AppendsFront}
 use Rattle.outside_io.specs.Causes.{Rose}
@@ -129,5 +129,5 @@ TellsNote words before now faults_before faults_now =
 
 -- a source was compiled: what the call leaves is what its image does on the chip, and its image agrees with what the source means
 pub record IsCompiled (program : SourceProgram) (input : List ℕ) (steps : ℕ) (status : Status) (left before now : Option (List ℕ)) : Type 0 where
-  pub run : RunLeaves (laid_out program) input steps status left before now
-  pub agrees : AreBytes input → AgreesOnChip program input
+  pub run : RunLeaves (laid_out [] program) input steps status left before now
+  pub agrees : AreBytes input → AgreesOnChip [] program input

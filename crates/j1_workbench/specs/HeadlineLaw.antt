@@ -1,5 +1,5 @@
 -- The law on the programs that are compiled.
-use Rattle.std.specs.Prelude.{◌≡◌, ℕ, List, true}
+use Rattle.std.specs.Prelude.{[], ◌≡◌, ℕ, List, true}
 use Rattle.forth_program.specs.Program.{SourceProgram}
 use Rattle.control_flow.specs.SourceLaw.{IsOneLine}
 use Rattle.code_layout.specs.Agreement.{AreBytes}
@@ -8,4 +8,4 @@ use Rattle.j1_workbench.specs.Certificate.{is_certified}
 
 -- a certified straight line agrees with its image
 abbrev pub LinesAgree : Type 0
-LinesAgree = (program : SourceProgram) (input : List ℕ) → IsOneLine program → is_certified program ≡ true → AreBytes input → AgreesOnChip program input
+LinesAgree = (program : SourceProgram) (input : List ℕ) → IsOneLine program → is_certified program ≡ true → AreBytes input → AgreesOnChip [] program input

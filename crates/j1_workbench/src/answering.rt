@@ -1,12 +1,14 @@
 // The answer of each command.
-ghost use Rattle.std.specs.Prelude.{◌≡◌, ◌≤◌, ◌↔◌, ◌⊎◌, ℕ, List, Option, Some, None, IfSome, map, string_bytes};
+ghost use Rattle.std.specs.Prelude.{[], ◌≡◌, ◌≤◌, ◌↔◌, ◌⊎◌, ℕ, List, Option, Some, None, IfSome, IfOk, map, string_bytes};
 ghost use Rattle.outside_io.specs.Causes.{Rose};
 ghost use Rattle.outside_io.specs.Files.{Lacks, IsLacking, KeepsFiles};
 ghost use Rattle.forth_program.specs.Program.{SourceProgram};
 ghost use Rattle.j1_workbench.specs.Words.{request_of, steps_allowed};
 ghost use Rattle.j1_workbench.specs.Judgement.{judged, Compiles, IsAnswered};
 ghost use Rattle.j1_workbench.specs.declared.status.Status.{Status as Answer};
+ghost use Rattle.code_layout.specs.Built.{IsBuilt};
 ghost use Rattle.code_layout.specs.Layout.{laid_out};
+ghost use Rattle.code_layout.specs.Places.{library_of};
 ghost use Rattle.j1_workbench.specs.Answers.{AsksToRun, AsksForMore, HasNoProgram, HoldsTextOf, NeverRuns, text_in, IsTextAnswer, IsRefusal, RunLeaves, IsUntouched};
 
 use crate::running::run_image;
@@ -14,8 +16,19 @@ use crate::source::{MOST_SOURCE, judge};
 use crate::status::Status;
 use crate::words::{Command, command_of};
 use code_layout::lay_out;
+use forth_program::Program;
+use j1_table::Image;
 use outside_io::{FileFault, Folder, Sink, Source};
-use std::alloc::Global;
+use std::alloc::{AllocError, Global};
+
+// The image of a program without library words. Before its MAIN it has no definition, so that it serves as its own empty library.
+fn image_of(alloc: Global, program: &Program) -> Result<Image, AllocError>
+    requires built { IsBuilt [] program.now }
+    requires alone { library_of program.now ≡ [] }
+    ensures { IfOk result (λ image. image ≡ laid_out [] program.now) }
+{
+    lay_out(alloc, program, program)
+}
 
 // Compiles and runs a source text.
 fn run_text<C: Source, O: Sink>(
@@ -27,7 +40,7 @@ fn run_text<C: Source, O: Sink>(
 ) -> Status
     ensures run { (program : SourceProgram) → judged text.now ≡ Compiles program →
         IfSome (C.left console.old) (λ input.
-        RunLeaves (laid_out program) input steps result (C.left console.new) (O.held out.old) (O.held out.new)) }
+        RunLeaves (laid_out [] program) input steps result (C.left console.new) (O.held out.old) (O.held out.new)) }
     ensures answer { (status : Answer) → judged text.now ≡ IsAnswered status → (result ≡ status) ⊎ (result ≡ Status.OutOfMemory) }
     ensures no_run { (status : Answer) → judged text.now ≡ IsAnswered status →
         IsUntouched (C.left console.old) (C.left console.new) (C.faults console.old) (C.faults console.new)
@@ -49,7 +62,7 @@ fn run_text<C: Source, O: Sink>(
         Ok(program) => program,
         Err(status) => return status,
     };
-    match lay_out(alloc, &program) {
+    match image_of(alloc, &program) {
         Ok(image) => run_image(alloc, &image, steps, console, out),
         Err(_) => Status::OutOfMemory,
     }
@@ -77,7 +90,7 @@ fn run_source<F: Folder, C: Source, O: Sink>(
 ) -> Status
     ensures run { (text : List ℕ) (program : SourceProgram) → text_in (F.files files.old) source.now ≡ Some text → judged text ≡ Compiles program →
         IfSome (C.left console.old) (λ input.
-        RunLeaves (laid_out program) input steps result (C.left console.new) (O.held out.old) (O.held out.new)) }
+        RunLeaves (laid_out [] program) input steps result (C.left console.new) (O.held out.old) (O.held out.new)) }
     ensures missing { result ≡ Status.Missing → Rose (F.absences files.old) (F.absences files.new) × Lacks (F.files files.old) source.now }
     ensures lacking { IsLacking (F.files files.old) source.now →
         (result ≡ Status.Missing) ⊎ ((result ≡ Status.ReadFault) × Rose (F.read_faults files.old) (F.read_faults files.new)) ⊎ (result ≡ Status.OutOfMemory) }
@@ -126,7 +139,7 @@ pub fn answer<F: Folder, C: Source, O: Sink>(
     ensures run { (source text : List ℕ) (steps : Option ℕ) (program : SourceProgram) → AsksToRun (request_of (map string_bytes words.now)) source steps →
         text_in (F.files files.old) source ≡ Some text → judged text ≡ Compiles program →
         IfSome (C.left console.old) (λ input.
-        RunLeaves (laid_out program) input (steps_allowed steps) result (C.left console.new) (O.held out.old) (O.held out.new)) }
+        RunLeaves (laid_out [] program) input (steps_allowed steps) result (C.left console.new) (O.held out.old) (O.held out.new)) }
     ensures bad_words { (result ≡ Status.BadWords) ↔ (request_of (map string_bytes words.now) ≡ None) }
     ensures not_built { AsksForMore (request_of (map string_bytes words.now)) → result ≡ Status.NotYet }
     ensures missing { result ≡ Status.Missing → (source : List ℕ) × (steps : Option ℕ) × AsksToRun (request_of (map string_bytes words.now)) source steps

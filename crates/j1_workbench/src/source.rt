@@ -1,6 +1,7 @@
 // Reading a source text.
-ghost use Rattle.std.specs.Prelude.{◌≡◌, ◌⊎◌, MatchResult, IfOk, IfErr};
+ghost use Rattle.std.specs.Prelude.{[], ◌≡◌, ◌⊎◌, MatchResult, IfOk, IfErr};
 ghost use Rattle.code_layout.specs.Built.{IsBuilt};
+ghost use Rattle.code_layout.specs.Places.{library_of};
 ghost use Rattle.j1_workbench.specs.Answers.{IsTextRefusal};
 ghost use Rattle.j1_workbench.specs.Judgement.{judged, Compiles, IsAnswered};
 
@@ -18,7 +19,8 @@ pub const MOST_SOURCE: usize = 65_536;
 pub fn judge(alloc: Global, text: &[u8]) -> Result<Program, Status>
     ensures judgement { MatchResult result (λ program. judged text.now ≡ Compiles program) (λ status. (status ≡ Status.OutOfMemory) ⊎ (judged text.now ≡ IsAnswered status)) }
     ensures refused { IfErr result (λ status. IsTextRefusal status) }
-    ensures built { IfOk result (λ program. IsBuilt program) }
+    ensures built { IfOk result (λ program. IsBuilt [] program) }
+    ensures alone { IfOk result (λ program. library_of program ≡ []) }
 {
     // each program is a line of numbers and inline words, which is laid out
     programs_are_lines();

@@ -3,6 +3,7 @@ use Rattle.std.proofs.Common.{◌≡◌, ℕ, zero, suc, ◌+◌, ◌-◌, ◌*�
 use Rattle.std.specs.Prelude.{slice_index, slice_set, int_lt, pos}
 use Rattle.std.proofs.lemmas.Nat.{and_le_l, xor_lt, or_lt}
 use Rattle.std.proofs.Math.Nat.{mod-lt, div-le_self}
+use Rattle.std.proofs.lemmas.Grind.{common_steps}
 use Rattle.cell_math.specs.Cell.{flag, signed, double_of}
 use Rattle.console_ports.specs.Ports.{access_at}
 use Rattle.console_ports.specs.declared.ports.Access.{Access as Met}
@@ -33,6 +34,9 @@ set_fits (c ∷ cells) zero v h f (suc k) = f (suc k)
 set_fits (c ∷ cells) (suc i) v h f zero = f 0
 set_fits (c ∷ cells) (suc i) v h f (suc k) = set_fits cells i v h (λ k. f (suc k)) k
 
+set_length : (cells : List ℕ) (i v : ℕ) → length (slice_set cells i v) ≡ length cells
+set_length cells i v = grind (arith, common_steps)
+
 -- what is owed of a state that a word leads on to
 abbrev pub Leaves : State → Outcome → Type 0
 Leaves s (Goes after) = IsKept s after
@@ -47,7 +51,7 @@ module _ (s : State) (g : AreEntries s.entries) (w : World) (e : w.data_start �
   taken_leaves : (i : List ℕ) → ((k : ℕ) → slice_index i k < 256) → (f : ℕ → List ℕ) → ((v : ℕ) → v < 65536 → AreCells (f v)) → Leaves s (on_cells (taken i w ▸ λ v. Gives (f v)) s)
   taken_leaves [] k f c = tt
   taken_leaves (byte ∷ i) k f c =
-      record { work = refl; callers = refl; data_start = e; cells = c byte (let b : byte < 256 = k 0 in omega (arith, b)); entries = g; world = record { data_start = h.data_start; space = h.space; input = λ j. k (suc j) } }
+      record { work = refl; callers = refl; data_start = e; cells = c byte (let b : byte < 256 = k 0 in omega (arith, b)); entries = g; world = record { data_start = h.data_start; aligned = h.aligned; room = h.room; space = h.space; input = λ j. k (suc j) } }
 
   fetch_leaves : (x : Met) (f : ℕ → List ℕ) → ((v : ℕ) → v < 65536 → AreCells (f v)) → Leaves s (on_cells (fetch_by w x ▸ λ v. Gives (f v)) s)
   fetch_leaves (met.Data i) f c = record { work = refl; callers = refl; data_start = e; cells = c (slice_index w.space (i - w.data_start / 2)) (h.space (i - w.data_start / 2)); entries = g; world = h }
@@ -58,8 +62,8 @@ module _ (s : State) (g : AreEntries s.entries) (w : World) (e : w.data_start �
 
   store_leaves : (x : Met) (v : ℕ) (c : List ℕ) → v < 65536 → AreCells c → Leaves s (on_cells (store_by w v x ▸ λ _. Gives c) s)
   store_leaves (met.Data i) v c n f =
-      record { work = refl; callers = refl; data_start = e; cells = f; entries = g; world = record { data_start = h.data_start; space = set_fits w.space (i - w.data_start / 2) v n h.space; input = h.input } }
-  store_leaves met.Print v c n f = record { work = refl; callers = refl; data_start = e; cells = f; entries = g; world = record { data_start = h.data_start; space = h.space; input = h.input } }
+      record { work = refl; callers = refl; data_start = e; cells = f; entries = g; world = record { data_start = h.data_start; aligned = h.aligned; room = (let same = set_length w.space (i - w.data_start / 2) v in let room = h.room in omega (arith, same, room)); space = set_fits w.space (i - w.data_start / 2) v n h.space; input = h.input } }
+  store_leaves met.Print v c n f = record { work = refl; callers = refl; data_start = e; cells = f; entries = g; world = record { data_start = h.data_start; aligned = h.aligned; room = h.room; space = h.space; input = h.input } }
   store_leaves met.Halt v c n f = tt
   store_leaves (met.Outside a) v c n f = tt
   store_leaves met.Key v c n f = tt
@@ -110,7 +114,7 @@ module _ (p : SourceProgram) (work : List Work) (callers : List Frame) (o : Worl
   word_leaves Blank c es f g = kept _ _ (omega arith, f) g
   word_leaves Cr c es f g = store_leaves (at_state c es) g o refl h (access_at o.data_start true 0x4000) 10 c (omega arith) f
   word_leaves Space c es f g = store_leaves (at_state c es) g o refl h (access_at o.data_start true 0x4000) 32 c (omega arith) f
-  word_leaves Base c es f g = kept _ _ (h.data_start, f) g
+  word_leaves Base c es f g = kept _ _ ((let starts = h.data_start in omega (arith, starts)), f) g
   word_leaves Here c es f g = fetch_leaves (at_state c es) g o refl h (access_at o.data_start false (o.data_start + 4)) (λ v. v ∷ c) (λ v k. (k, f))
   word_leaves Decimal c es f g = store_leaves (at_state c es) g o refl h (access_at o.data_start true o.data_start) 10 c (omega arith) f
   word_leaves Depth c es f g = kept _ _ (mod-lt (length c) (omega arith), f) g

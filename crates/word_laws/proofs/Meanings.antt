@@ -3,17 +3,17 @@ use Rattle.std.proofs.Common.{◌∙◌, ◌≡◌, ℕ, suc, ◌+◌, ◌-◌, 
 use Rattle.std.specs.Prelude.{map}
 use Rattle.j1_table.specs.Instruction.{decoded}
 use Rattle.word_table.specs.declared.word.Word.{Word}
-use Rattle.word_table.specs.declared.word.Word.TheVariants.{RFrom, RFetch, Index, OuterIndex, Unloop}
-use Rattle.word_table.specs.Table.{entry_of, cells_of}
+use Rattle.word_table.specs.declared.word.Word.TheVariants.{Base, Here, Decimal, RFrom, RFetch, Index, OuterIndex, Unloop}
+use Rattle.word_table.specs.Table.{entry_of, cells_of, cells_from}
 use Rattle.forth_program.specs.State.{Entry, Cell, Loop, Halted, InputEnded, Outside, Underflow, Unbalanced, Outcome, Goes, Ends}
 use Rattle.forth_program.specs.Step.{word_step}
 use Rattle.j1_simulator.specs.OpenMachine.{open_storage}
 use Rattle.j1_simulator.specs.Run.{run}
 use Rattle.word_laws.specs.Rings.{BeforeEach}
 use Rattle.word_laws.specs.Bounds.{StaysWithin}
-use Rattle.word_laws.specs.Standing.{return_places, standing_as, HasCome}
+use Rattle.word_laws.specs.Standing.{return_places, standing_as, HasCome, StandIn}
 use Rattle.word_laws.specs.Words.{stands_plain, finds_entries, return_need, lacks, WordsDoTheirMeaning, WordsKeepTheirBounds, WordsEndWithinBounds}
-use Rattle.word_laws.proofs.Rows.{instructions_of, when}
+use Rattle.word_laws.proofs.Rows.{instructions_of, instructions_are, HasAll, when}
 use Rattle.word_laws.proofs.Walk.{word_stays}
 use Rattle.word_laws.proofs.WordWalks.{words_stay, ends_stay}
 use Rattle.word_laws.proofs.WordRows.{word_row, Row}
@@ -50,23 +50,33 @@ return_places_found OuterIndex (Loop l i ∷ []) base e = let no : ⊥ = cc in a
 return_places_found OuterIndex (Loop l i ∷ Cell x ∷ es) base e = let no : ⊥ = cc in absurd no
 return_places_found word es base e = omega arith
 
-as_many : (cells : List ℕ) → length (map decoded cells) ≡ length cells
-as_many [] = refl
-as_many (cell ∷ cells) = ap suc (as_many cells)
+as_many : (data_start : ℕ) (word : Word) → length (instructions_of data_start word) ≡ length (cells_of word)
+as_many data_start Base = refl
+as_many data_start Here = refl
+as_many data_start Decimal = refl
+as_many data_start word = all (cells_of word)
+  where
+    all : (cells : List ℕ) → length (map decoded cells) ≡ length cells
+    all [] = refl
+    all (cell ∷ cells) = ap suc (all cells)
+
+-- a word's instructions stand where its cells stand
+word_stands : (data_start : ℕ) (word : Word) (code : List ℕ) (pc next : ℕ) → StandIn code pc (cells_from data_start word) next → HasAll code pc (instructions_of data_start word) next
+word_stands data_start word code pc next h = subst (λ is. HasAll code pc is next) (instructions_are data_start word) (has_all code (cells_from data_start word) pc next h)
 
 parts : (k n : ℕ) → k ≤ n → n ≡ (n - k) + k
 parts k n h = omega arith
 
 pub words_do_their_meaning : WordsDoTheirMeaning
 words_do_their_meaning p word code pc next s base da ra r =
-    subst (λ n. HasCome code next base (run open_storage s.world.data_start n (standing_as s code pc base da ra)) (word_step p word s.cells s.entries s)) (as_many (cells_of word))
-    (row_comes s.world.data_start code r.code_size false (instructions_of word) pc next s.cells (return_places s.entries base) base da ra s.world
+    subst (λ n. HasCome code next base (run open_storage s.world.data_start n (standing_as s code pc base da ra)) (word_step p word s.cells s.entries s)) (as_many s.world.data_start word)
+    (row_comes s.world.data_start code r.code_size false (instructions_of s.world.data_start word) pc next s.cells (return_places s.entries base) base da ra s.world
     (length s.cells - (entry_of word).need) (entry_of word).need (length (return_places s.entries base) - return_need word) (return_need word)
     ((entry_of word).need + (entry_of word).peak) (return_need word + (entry_of word).back) (word_step p word s.cells s.entries s)
     (parts (entry_of word).need (length s.cells) r.need)
     (parts (return_need word) (length (return_places s.entries base)) (return_places_found word s.entries base r.finds))
-    (when (stands_plain word) (word_stays false word ≡ true) r.plain (words_stay word))
-    (has_all code (cells_of word) pc next r.in_code)
+    (when (stands_plain word) (word_stays s.world.data_start false word ≡ true) r.plain (words_stay s.world.data_start word))
+    (word_stands s.world.data_start word code pc next r.in_code)
     (when (stands_plain word) (Row p s.work s.callers s.world code r.code_size base pc da ra (pos (length s.cells)) (pos (length (return_places s.entries base))) word s.cells s.entries) r.plain
     (word_row p s.work s.callers s.world code r.code_size base pc da ra (pos (length s.cells)) (pos (length (return_places s.entries base))) word s.cells s.entries refl r.cells r.entries r.applies))
     (may_end (word_step p word s.cells s.entries s)
@@ -76,26 +86,26 @@ pub words_keep_their_bounds : WordsKeepTheirBounds
 words_keep_their_bounds word code pc next s base da ra r =
     let c = parts (entry_of word).need (length s.cells) r.need in
     let b = parts (return_need word) (length (return_places s.entries base)) (return_places_found word s.entries base r.finds) in
-    subst (λ n. BeforeEach (StaysWithin (length s.cells - (entry_of word).need) (length s.cells + (entry_of word).peak) (length (return_places s.entries base) - return_need word) (length (return_places s.entries base) + (entry_of word).back)) s.world.data_start n (standing_as s code pc base da ra)) (as_many (cells_of word))
-    (each_widens s.world.data_start _ _ _ _ _ _ _ _ (length (instructions_of word)) (standing_as s code pc base da ra) (omega arith) (omega (arith, c)) (omega arith) (omega (arith, b))
-    (row_stays s.world.data_start code r.code_size false (instructions_of word) pc next s.cells (return_places s.entries base) da ra s.world
+    subst (λ n. BeforeEach (StaysWithin (length s.cells - (entry_of word).need) (length s.cells + (entry_of word).peak) (length (return_places s.entries base) - return_need word) (length (return_places s.entries base) + (entry_of word).back)) s.world.data_start n (standing_as s code pc base da ra)) (as_many s.world.data_start word)
+    (each_widens s.world.data_start _ _ _ _ _ _ _ _ (length (instructions_of s.world.data_start word)) (standing_as s code pc base da ra) (omega arith) (omega (arith, c)) (omega arith) (omega (arith, b))
+    (row_stays s.world.data_start code r.code_size false (instructions_of s.world.data_start word) pc next s.cells (return_places s.entries base) da ra s.world
     (length s.cells - (entry_of word).need) (entry_of word).need (length (return_places s.entries base) - return_need word) (return_need word)
     ((entry_of word).need + (entry_of word).peak) (return_need word + (entry_of word).back) c b
-    (when (stands_plain word) (word_stays false word ≡ true) r.plain (words_stay word))
-    (has_all code (cells_of word) pc next r.in_code)))
+    (when (stands_plain word) (word_stays s.world.data_start false word ≡ true) r.plain (words_stay s.world.data_start word))
+    (word_stands s.world.data_start word code pc next r.in_code)))
 
 pub words_end_within_bounds : WordsEndWithinBounds
 words_end_within_bounds p word code pc next s base da ra end world r ends =
     let c = parts (entry_of word).need (length s.cells) r.need in
     let b = parts (return_need word) (length (return_places s.entries base)) (return_places_found word s.entries base r.finds) in
-    let has = has_all code (cells_of word) pc next r.in_code in
+    let has = word_stands s.world.data_start word code pc next r.in_code in
     let w = standing_as s code pc base da ra in
     let come = subst (HasCome code next base (run open_storage s.world.data_start (length (cells_of word)) w)) ends (words_do_their_meaning p word code pc next s base da ra r) in
-    let many = as_many (cells_of word) in
+    let many = as_many s.world.data_start word in
     subst (λ n. StaysWithin (length s.cells - (entry_of word).need) (length s.cells + (entry_of word).peak) (length (return_places s.entries base) - return_need word) (length (return_places s.entries base) + (entry_of word).back) (run open_storage s.world.data_start n w)) many
-    (within_widens _ _ _ _ _ _ _ _ (omega arith) (omega (arith, c)) (omega arith) (omega (arith, b)) (run open_storage s.world.data_start (length (instructions_of word)) w)
-    (row_ends s.world.data_start code r.code_size true refl (instructions_of word) pc next s.cells (return_places s.entries base) da ra s.world
+    (within_widens _ _ _ _ _ _ _ _ (omega arith) (omega (arith, c)) (omega arith) (omega (arith, b)) (run open_storage s.world.data_start (length (instructions_of s.world.data_start word)) w)
+    (row_ends s.world.data_start code r.code_size true refl (instructions_of s.world.data_start word) pc next s.cells (return_places s.entries base) da ra s.world
     (length s.cells - (entry_of word).need) (entry_of word).need (length (return_places s.entries base) - return_need word) (return_need word)
     ((entry_of word).need + (entry_of word).peak) (return_need word + (entry_of word).back) come.0 c b
-    (when (stands_plain word) (word_stays true word ≡ true) r.plain (ends_stay p s word s.cells s.entries end world r.need ends))
+    (when (stands_plain word) (word_stays s.world.data_start true word ≡ true) r.plain (ends_stay s.world.data_start p s word s.cells s.entries end world r.need ends))
     has (ap (λ n. (run open_storage s.world.data_start n w).stop) many ∙ come.2.stop_is)))

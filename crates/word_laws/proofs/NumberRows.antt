@@ -1,7 +1,6 @@
 -- The cells of a number do what it means and keep its bounds.
-use Rattle.std.proofs.Common.{◌≡◌, ℕ, ◌+◌, ◌-◌, ◌<◌, ◌≤◌, Bool, true, false, nat_lt, List, [], ◌∷◌, length, Option, ℤ, pos, ◌+ℤ◌, refl, ap, ◌∙◌, subst, arith}
+use Rattle.std.proofs.Common.{◌≡◌, ℕ, ◌+◌, ◌-◌, ◌<◌, Bool, true, false, nat_lt, List, [], ◌∷◌, length, Option, ℤ, pos, ◌+ℤ◌, refl, ap, ◌∙◌, subst, arith}
 use Rattle.std.specs.Prelude.{if◌then◌else◌}
-use Rattle.std.proofs.lemmas.Bool.{le-ltb}
 use Rattle.j1_table.specs.declared.instr.Instr.{Instr}
 use Rattle.j1_table.specs.declared.instr.Instr.TheVariants.{Literal}
 use Rattle.j1_table.specs.Instruction.{decoded}
@@ -14,22 +13,9 @@ use Rattle.word_laws.specs.Rings.{BeforeEach}
 use Rattle.word_laws.specs.Bounds.{StaysWithin}
 use Rattle.word_laws.specs.Standing.{return_places, standing, standing_as, HasCome, StandIn}
 use Rattle.word_laws.specs.Numbers.{NumbersDoTheirMeaning, NumbersKeepTheirBounds}
-use Rattle.word_laws.proofs.Rows.{feed, past, data_past, return_past, HasAll}
+use Rattle.word_laws.proofs.Rows.{literal_of, feed, past, data_past, return_past, HasAll}
 use Rattle.word_laws.proofs.Walk.{stays}
 use Rattle.word_laws.proofs.Running.{row_comes, row_stays, each_widens}
-
--- a cell from 0x8000 on is a literal
-literal_of : (value : ℕ) → decoded (0x8000 + value) ≡ Literal value
-literal_of value =
-    let a : nat_lt (0x8000 + value) 0x2000 ≡ false = not_below value 0x2000 (omega arith) in
-    let b : nat_lt (0x8000 + value) 0x4000 ≡ false = not_below value 0x4000 (omega arith) in
-    let c : nat_lt (0x8000 + value) 0x6000 ≡ false = not_below value 0x6000 (omega arith) in
-    let d : nat_lt (0x8000 + value) 0x8000 ≡ false = not_below value 0x8000 (omega arith) in
-    let e : (0x8000 + value) - 0x8000 ≡ value = omega arith in
-    rw (a, b, c, d, e) refl
-  where
-    not_below : (value limit : ℕ) → limit ≤ 0x8000 → nat_lt (0x8000 + value) limit ≡ false
-    not_below value limit h = le-ltb (0x8000 + value) limit (omega arith)
 
 -- the instructions of a number, by its size
 abbrev number_instructions : Bool → ℕ → List Instr

@@ -1,9 +1,13 @@
 -- Instructions in a row, wherever they stand.
-use Rattle.std.specs.Prelude.{ℕ, ◌≡◌, Bool, true, false, List, [], ◌∷◌, map, ℤ, ◌+ℤ◌, Option, Some, None}
+use Rattle.std.proofs.Common.{ℕ, ◌≡◌, ◌+◌, ◌-◌, ◌≤◌, Bool, true, false, nat_lt, List, [], ◌∷◌, ℤ, ◌+ℤ◌, Option, Some, None, refl, ap, arith}
+use Rattle.std.specs.Prelude.{map}
+use Rattle.std.proofs.lemmas.Bool.{le-ltb}
 use Rattle.j1_table.specs.declared.instr.Instr.{Instr}
+use Rattle.j1_table.specs.declared.instr.Instr.TheVariants.{Literal}
 use Rattle.j1_table.specs.Instruction.{decoded}
 use Rattle.word_table.specs.declared.word.Word.{Word}
-use Rattle.word_table.specs.Table.{cells_of}
+use Rattle.word_table.specs.declared.word.Word.TheVariants.{Base, Here, Decimal}
+use Rattle.word_table.specs.Table.{cells_of, cells_from}
 use Rattle.forth_program.specs.State.{World, Outcome, Goes, Ends}
 use Rattle.j1_simulator.specs.Effect.{effect, following}
 use Rattle.j1_simulator.specs.Step.{Stop}
@@ -13,8 +17,32 @@ use Rattle.word_laws.specs.Rings.{OpenConfiguration}
 use Rattle.word_laws.specs.Control.{Holds}
 use Rattle.word_laws.specs.Standing.{return_places, standing, machine_end, EndedIn}
 
-abbrev pub instructions_of : Word → List Instr
-instructions_of word = map decoded (cells_of word)
+-- of a word, where data space begins at an address
+abbrev pub instructions_of : ℕ → Word → List Instr
+instructions_of data_start Base = Literal data_start ∷ []
+instructions_of data_start Here = Literal (data_start + 4) ∷ decoded 0x6C00 ∷ []
+instructions_of data_start Decimal = decoded 0x800A ∷ Literal data_start ∷ decoded 0x6023 ∷ decoded 0x6103 ∷ []
+instructions_of data_start word = map decoded (cells_of word)
+
+-- a cell from 0x8000 on is a literal
+pub literal_of : (value : ℕ) → decoded (0x8000 + value) ≡ Literal value
+literal_of value =
+    let a : nat_lt (0x8000 + value) 0x2000 ≡ false = not_below value 0x2000 (omega arith) in
+    let b : nat_lt (0x8000 + value) 0x4000 ≡ false = not_below value 0x4000 (omega arith) in
+    let c : nat_lt (0x8000 + value) 0x6000 ≡ false = not_below value 0x6000 (omega arith) in
+    let d : nat_lt (0x8000 + value) 0x8000 ≡ false = not_below value 0x8000 (omega arith) in
+    let e : (0x8000 + value) - 0x8000 ≡ value = omega arith in
+    rw (a, b, c, d, e) refl
+  where
+    not_below : (value limit : ℕ) → limit ≤ 0x8000 → nat_lt (0x8000 + value) limit ≡ false
+    not_below value limit h = le-ltb (0x8000 + value) limit (omega arith)
+
+-- they are those of its cells
+pub instructions_are : (data_start : ℕ) (word : Word) → map decoded (cells_from data_start word) ≡ instructions_of data_start word
+instructions_are data_start Base = ap (λ i. i ∷ []) (literal_of data_start)
+instructions_are data_start Here = ap (λ i. i ∷ decoded 0x6C00 ∷ []) (literal_of (data_start + 4))
+instructions_are data_start Decimal = ap (λ i. decoded 0x800A ∷ i ∷ decoded 0x6023 ∷ decoded 0x6103 ∷ []) (literal_of data_start)
+instructions_are data_start word = refl
 
 -- each instruction by its effect, without its fetch
 abbrev pub feed : ℕ → List Instr → OpenConfiguration → OpenConfiguration

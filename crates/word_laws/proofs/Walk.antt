@@ -83,7 +83,7 @@ stays true hi return_high [] k x j y = allowed hi return_high k x j y
 stays false hi return_high [] k x j y = true
 stays to_end hi return_high (c ∷ cs) k x j y = checked hi return_high (effect 0 c) (stays to_end hi return_high cs) k x j y
 
--- the walk over a word's instructions, from its need and the return places that it works on
-abbrev pub word_stays : Bool → Word → Bool
-word_stays to_end word =
-    stays to_end ((entry_of word).need + (entry_of word).peak) (return_need word + (entry_of word).back) (instructions_of word) (entry_of word).need (entry_of word).need (return_need word) (return_need word)
+-- the walk over a word's instructions, where data space begins at an address, from its need and the return places that it works on
+abbrev pub word_stays : ℕ → Bool → Word → Bool
+word_stays data_start to_end word =
+    stays to_end ((entry_of word).need + (entry_of word).peak) (return_need word + (entry_of word).back) (instructions_of data_start word) (entry_of word).need (entry_of word).need (return_need word) (return_need word)

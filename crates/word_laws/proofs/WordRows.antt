@@ -1,5 +1,5 @@
 -- Each word's cells do what the word means, wherever they stand.
-use Rattle.std.proofs.Common.{◌≡◌, ℕ, suc, ◌+◌, ◌-◌, ◌*◌, ◌/◌, ◌%◌, ◌<◌, ◌≤◌, Bool, true, false, List, [], ◌∷◌, length, Option, ℤ, pos, negsuc, ◌+ℤ◌, refl, sym, ap, ◌∙◌, subst, arith, leb-true, ltb-false}
+use Rattle.std.proofs.Common.{◌≡◌, ℕ, suc, ◌+◌, ◌-◌, ◌*◌, ◌/◌, ◌%◌, ◌<◌, ◌≤◌, Bool, true, false, List, [], ◌∷◌, length, Option, ℤ, pos, negsuc, ◌+ℤ◌, refl, ap, ◌∙◌, arith, leb-true, ltb-false}
 use Rattle.std.specs.Prelude.{bit_and, bit_or, bit_xor, int_lt, nat_lt, if◌then◌else◌}
 use Rattle.std.proofs.lemmas.Nat.{and_mask, and_comm, or_comm, xor_comm}
 use Rattle.std.proofs.lemmas.Nat.Bits.{and_high_mask}
@@ -8,10 +8,9 @@ use Rattle.cell_math.specs.Cell.{sum_of, difference_of, flag, signed, double_of,
 use Rattle.word_table.specs.declared.word.Word.{Word}
 use Rattle.word_table.specs.declared.word.Word.TheVariants.{Dup, DropTop, Swap, Over, Rot, TwoDup, TwoDrop, Plus, Minus, Negate, OnePlus, OneMinus, TwoStar, And, Or, Xor, Invert, LShift, RShift, Equal, Less, Greater, ULess, ZeroEqual, ZeroLess, SToD}
 use Rattle.word_table.specs.declared.word.Word.TheVariants.{Cells, CellPlus, Chars, CharPlus, Aligned, Fetch, Store, Emit, Key, Blank, Cr, Space, Base, Here, Decimal, Depth, AbortRun, Quit, ToR, RFrom, RFetch, Index, OuterIndex, Unloop}
-use Rattle.forth_program.specs.State.{Entry, Cell, Loop, Work, Frame, World, State, Gives, ◌▸◌, Goes}
-use Rattle.forth_program.specs.Access.{fetch, store}
+use Rattle.forth_program.specs.State.{Entry, Cell, Loop, Work, Frame, World, State, Goes}
 use Rattle.forth_program.specs.Program.{SourceProgram}
-use Rattle.forth_program.specs.Step.{word_step, on_cells}
+use Rattle.forth_program.specs.Step.{word_step}
 use Rattle.j1_simulator.specs.RoundMachine.{around}
 use Rattle.j1_simulator.specs.Effect.{following}
 use Rattle.word_laws.specs.Rings.{OpenConfiguration}
@@ -58,25 +57,10 @@ module _ (p : SourceProgram) (work : List Work) (callers : List Frame) (o : Worl
 
   module _ (pc : ℕ) (da ra : List (Option ℕ)) (d b : ℤ) where
     abbrev pub Row : Word → List ℕ → List Entry → Type 0
-    Row word c es = RowMeans code (past pc (instructions_of word)) base (data_past d (instructions_of word)) (return_past b (instructions_of word))
-        (feed o.data_start (instructions_of word) (standing code pc c (return_places es base) da ra d b o)) (word_step p word c es (at_state c es))
+    Row word c es = RowMeans code (past pc (instructions_of o.data_start word)) base (data_past d (instructions_of o.data_start word)) (return_past b (instructions_of o.data_start word))
+        (feed o.data_start (instructions_of o.data_start word) (standing code pc c (return_places es base) da ra d b o)) (word_step p word c es (at_state c es))
 
-    here_row : (c : List ℕ) (es : List Entry) → o.data_start ≡ 0x2000 →
-        RowMeans code (following (following pc)) base (d +ℤ pos 1 +ℤ pos 0) (b +ℤ pos 0 +ℤ pos 0) (feed o.data_start (instructions_of Here) (standing code pc c (return_places es base) da ra d b o)) (on_cells (fetch 8196 o ▸ λ v. Gives (v ∷ c)) (at_state c es)) → Row Here c es
-    here_row c es e h =
-        subst (λ a. RowMeans code (following (following pc)) base (d +ℤ pos 1 +ℤ pos 0) (b +ℤ pos 0 +ℤ pos 0) (feed o.data_start (instructions_of Here) (standing code pc c (return_places es base) da ra d b o)) (on_cells (fetch a o ▸ λ v. Gives (v ∷ c)) (at_state c es)))
-        address h
-      where
-        address : 8196 ≡ o.data_start + 4
-        address = omega (arith, e)
-
-    decimal_row : (c : List ℕ) (es : List Entry) → o.data_start ≡ 0x2000 →
-        RowMeans code (past pc (instructions_of Decimal)) base (data_past d (instructions_of Decimal)) (return_past b (instructions_of Decimal)) (feed o.data_start (instructions_of Decimal) (standing code pc c (return_places es base) da ra d b o)) (on_cells (store 8192 10 o ▸ λ _. Gives c) (at_state c es)) → Row Decimal c es
-    decimal_row c es e h =
-        subst (λ a. RowMeans code (past pc (instructions_of Decimal)) base (data_past d (instructions_of Decimal)) (return_past b (instructions_of Decimal)) (feed o.data_start (instructions_of Decimal) (standing code pc c (return_places es base) da ra d b o)) (on_cells (store a 10 o ▸ λ _. Gives c) (at_state c es)))
-        (sym e) h
-
-    pub word_row : (word : Word) (c : List ℕ) (es : List Entry) → d ≡ pos (length c) → AreCells c → AreEntries es → CellsApply word c o → When (stands_plain word) (Row word c es)
+    pub word_row : (word : Word) (c : List ℕ) (es : List Entry) → d ≡ pos (length c) → AreCells c → AreEntries es → CellsApply word c → When (stands_plain word) (Row word c es)
     word_row Dup (x ∷ c) es n f g h = (_, _, refl)
     word_row DropTop (x ∷ c) es n f g h = (_, _, refl)
     word_row Swap (y ∷ x ∷ c) es n f g h = (_, _, refl)
@@ -119,12 +103,12 @@ module _ (p : SourceProgram) (work : List Work) (callers : List Frame) (o : Worl
     word_row Cr (y ∷ c) es n f g h = (_, _, refl)
     word_row Space [] es n f g h = (_, _, refl)
     word_row Space (y ∷ c) es n f g h = (_, _, refl)
-    word_row Base [] es n f g h = renamed _ _ (8192 ∷ []) _ (at_state [] es) _ _ _ _ refl (top [] (sym h))
-    word_row Base (y ∷ c) es n f g h = renamed _ _ (8192 ∷ y ∷ c) _ (at_state (y ∷ c) es) _ _ _ _ refl (top (y ∷ c) (sym h))
-    word_row Here [] es n f g h = here_row [] es h (fetch_row code base (at_state [] es) o size (following pc) 8196 [] _ ra (d +ℤ pos 1) (b +ℤ pos 0))
-    word_row Here (y ∷ c) es n f g h = here_row (y ∷ c) es h (fetch_row code base (at_state (y ∷ c) es) o size (following pc) 8196 (y ∷ c) _ ra (d +ℤ pos 1) (b +ℤ pos 0))
-    word_row Decimal [] es n f g h = decimal_row [] es h (store_row code base (at_state [] es) o size (following (following pc)) 8192 10 [] _ ra (d +ℤ pos 1 +ℤ pos 1) (b +ℤ pos 0 +ℤ pos 0))
-    word_row Decimal (y ∷ c) es n f g h = decimal_row (y ∷ c) es h (store_row code base (at_state (y ∷ c) es) o size (following (following pc)) 8192 10 (y ∷ c) _ ra (d +ℤ pos 1 +ℤ pos 1) (b +ℤ pos 0 +ℤ pos 0))
+    word_row Base [] es n f g h = (_, _, refl)
+    word_row Base (y ∷ c) es n f g h = (_, _, refl)
+    word_row Here [] es n f g h = fetch_row code base (at_state [] es) o size (following pc) (o.data_start + 4) [] _ ra (d +ℤ pos 1) (b +ℤ pos 0)
+    word_row Here (y ∷ c) es n f g h = fetch_row code base (at_state (y ∷ c) es) o size (following pc) (o.data_start + 4) (y ∷ c) _ ra (d +ℤ pos 1) (b +ℤ pos 0)
+    word_row Decimal [] es n f g h = store_row code base (at_state [] es) o size (following (following pc)) o.data_start 10 [] _ ra (d +ℤ pos 1 +ℤ pos 1) (b +ℤ pos 0 +ℤ pos 0)
+    word_row Decimal (y ∷ c) es n f g h = store_row code base (at_state (y ∷ c) es) o size (following (following pc)) o.data_start 10 (y ∷ c) _ ra (d +ℤ pos 1 +ℤ pos 1) (b +ℤ pos 0 +ℤ pos 0)
     word_row Depth [] es n f g h = renamed _ _ (bit_and 31 (around b * 256 + around d) ∷ []) _ (at_state [] es) _ _ _ _ refl (top [] (depth_is (around b) (around d) 0 (ap around n) h))
     word_row Depth (y ∷ c) es n f g h = renamed _ _ (bit_and 31 (around b * 256 + around d) ∷ y ∷ c) _ (at_state (y ∷ c) es) _ _ _ _ refl (top (y ∷ c) (depth_is (around b) (around d) (length (y ∷ c)) (ap around n) h))
     word_row AbortRun [] es n f g h = record { stop_is = refl; memory = refl; input = refl; printed = refl }

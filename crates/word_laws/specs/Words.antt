@@ -3,8 +3,8 @@ use Rattle.std.specs.Prelude.{ℕ, suc, ◌+◌, ◌-◌, ◌/◌, ◌≤◌, �
 use Rattle.word_table.specs.declared.word.Class.{Class}
 use Rattle.word_table.specs.declared.word.Class.TheVariants as class
 use Rattle.word_table.specs.declared.word.Word.{Word}
-use Rattle.word_table.specs.declared.word.Word.TheVariants.{ToR, RFrom, RFetch, Index, OuterIndex, Unloop, Depth, Base, Here, Decimal}
-use Rattle.word_table.specs.Table.{entry_of, cells_of}
+use Rattle.word_table.specs.declared.word.Word.TheVariants.{ToR, RFrom, RFetch, Index, OuterIndex, Unloop, Depth}
+use Rattle.word_table.specs.Table.{entry_of, cells_of, cells_from}
 use Rattle.forth_program.specs.State.{Entry, Cell, Loop, World, State, End, Underflow, Unbalanced, Outcome, Goes, Ends}
 use Rattle.forth_program.specs.Program.{SourceProgram}
 use Rattle.forth_program.specs.Step.{word_step}
@@ -52,25 +52,21 @@ return_need OuterIndex = 4
 return_need Unloop = 2
 return_need word = 0
 
--- what else the cells of a word ask for: those of DEPTH count at most 31 cells, since they read a pointer of five bits, and those
--- of BASE, HERE and DECIMAL name data space where it begins at 0x2000
-abbrev pub CellsApply : Word → List ℕ → World → Type 0
-CellsApply Depth c w = length c ≤ 31
-CellsApply Base c w = w.data_start ≡ 0x2000
-CellsApply Here c w = w.data_start ≡ 0x2000
-CellsApply Decimal c w = w.data_start ≡ 0x2000
-CellsApply word c w = Unit {0}
+-- what else the cells of a word ask for: those of DEPTH count at most 31 cells, since they read a pointer of five bits
+abbrev pub CellsApply : Word → List ℕ → Type 0
+CellsApply Depth c = length c ≤ 31
+CellsApply word c = Unit {0}
 
 -- a word stands in code, from pc to next, and a state has what it needs
 pub record IsReady (word : Word) (code : List ℕ) (pc next : ℕ) (s : State) : Type 0 where
   pub plain : stands_plain word ≡ true
   pub code_size : length code ≡ s.world.data_start / 2
-  pub in_code : StandIn code pc (cells_of word) next
+  pub in_code : StandIn code pc (cells_from s.world.data_start word) next
   pub need : (entry_of word).need ≤ length s.cells
   pub finds : finds_entries word s.entries ≡ true
   pub cells : AreCells s.cells
   pub entries : AreEntries s.entries
-  pub applies : CellsApply word s.cells s.world
+  pub applies : CellsApply word s.cells
 
 -- in as many instructions as it has cells, a word's code does what the word means, or has ended as the word ends
 abbrev pub WordsDoTheirMeaning : Type 0

@@ -1,5 +1,5 @@
 -- The word table, a row for each word.
-use Rattle.std.specs.Prelude.{◌∷◌, [], List, ℕ, pos, Some, None}
+use Rattle.std.specs.Prelude.{◌∷◌, [], List, ℕ, ◌+◌, pos, Some, None}
 use Rattle.word_table.specs.declared.word.Word.{Word}
 use Rattle.word_table.specs.declared.word.Word.TheVariants.{Dup, DropTop, Swap, Over, Rot, TwoDup, TwoDrop, Plus, Minus, Negate, OnePlus, OneMinus, TwoStar, And, Or, Xor, Invert, LShift, RShift, Equal}
 use Rattle.word_table.specs.declared.word.Word.TheVariants.{Less, Greater, ULess, ZeroEqual, ZeroLess, SToD, Cells, CellPlus, Chars, CharPlus, Aligned, Fetch, Store, Emit, Key, Blank, Cr, Space, Base}
@@ -152,3 +152,10 @@ entry_of word = (row word).entry
 -- the cells of a word that stands in an image as it is
 abbrev pub cells_of : Word → List ℕ
 cells_of word = (row word).cells
+
+-- the same in an image whose data space begins at an address: BASE is there, and HERE four bytes on. The table has them for 0x2000
+abbrev pub cells_from : ℕ → Word → List ℕ
+cells_from data_start Base = (0x8000 + data_start) ∷ []
+cells_from data_start Here = (0x8000 + (data_start + 4)) ∷ 0x6C00 ∷ []
+cells_from data_start Decimal = 0x800A ∷ (0x8000 + data_start) ∷ 0x6023 ∷ 0x6103 ∷ []
+cells_from data_start word = cells_of word

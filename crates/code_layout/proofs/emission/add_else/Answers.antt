@@ -3,5 +3,5 @@ use Rattle.std.proofs.lemmas.Grind.{common_steps}
 use Rattle.code_layout.proofs.Emitting.{some_else_cells}
 use Rattle.code_layout.proofs.emission.add_else.Goals as goal
 
-pub returns-else-is_empty : goal.returns-else-is_empty
-returns-else-is_empty c = grind (arith, common_steps, some_else_cells)
+pub returns-then-end_is_reached : goal.returns-then-end_is_reached
+returns-then-end_is_reached c = grind (arith, common_steps, some_else_cells)

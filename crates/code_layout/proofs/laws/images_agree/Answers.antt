@@ -8,6 +8,7 @@ returns c = images_agree (record {
   word_ends = c.words_keep_their_bounds.ensures.at_the_end;
   word_needs = c.needs_are_exact.ensures;
   word_cells = c.words_leave_cells.ensures;
+  word_depths = c.words_change_depths.ensures;
   numbers = c.numbers_do_their_meaning.ensures.meaning;
   number_bounds = c.numbers_do_their_meaning.ensures.bounds;
   jumps = c.control_leads.ensures.jump;

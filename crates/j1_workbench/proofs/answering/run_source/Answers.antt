@@ -1,4 +1,4 @@
-use Rattle.std.proofs.Common.{ap, sym, ◌∙◌, inl, inr}
+use Rattle.std.proofs.Common.{[], ap, sym, ◌∙◌, inl, inr}
 use Rattle.j1_workbench.specs.Judgement.{judged}
 use Rattle.code_layout.specs.Layout.{laid_out}
 use Rattle.j1_workbench.proofs.Driving.{failed_leaves}
@@ -23,7 +23,7 @@ returns-in-Ok-clause-other_text g c = λ text status told answered.
     [ inl same ↦ inl same | inr answer ↦ inr (inr answer) ]
 
 pub returns-in-Err-Failed-clause-run : goal.returns-in-Err-Failed-clause-run
-returns-in-Err-Failed-clause-run g c = λ text program told built. failed_leaves (laid_out program) c.args.steps (g.C.Source.left c.args.console.now) (g.O.Sink.held c.args.out.now)
+returns-in-Err-Failed-clause-run g c = λ text program told built. failed_leaves (laid_out [] program) c.args.steps (g.C.Source.left c.args.console.now) (g.O.Sink.held c.args.out.now)
 
 pub returns-in-Ok-clause-no_run : goal.returns-in-Ok-clause-no_run
 returns-in-Ok-clause-no_run g c = λ none.

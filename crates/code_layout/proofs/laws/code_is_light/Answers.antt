@@ -1,0 +1,5 @@
+use Rattle.code_layout.proofs.Weighing.{code_is_light}
+use Rattle.code_layout.proofs.laws.code_is_light.Goals as goal
+
+pub returns : goal.returns
+returns c = code_is_light
