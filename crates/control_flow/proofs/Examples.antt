@@ -1,8 +1,8 @@
 -- Small texts, as the checker reads them by the definitions.
 use Rattle.std.proofs.Common.{◌≡◌, [], ◌∷◌, ◌++◌, refl}
-use Rattle.std.specs.Prelude.{ℕ, List, zero, suc, codes}
-use Rattle.word_table.specs.declared.word.Word.TheVariants.{Emit, Dup}
-use Rattle.forth_program.specs.Tree.{Nodes, Literal, Plain, Empty, Then}
+use Rattle.std.specs.Prelude.{ℕ, List, zero, suc, true, false, codes}
+use Rattle.word_table.specs.declared.word.Word.TheVariants.{Emit, Dup, Index}
+use Rattle.forth_program.specs.Tree.{Literal, Plain, Call, If, Until, While, Again, Do, QDo, Case, Leave, Exit, Empty, Then, NoArm, Arm}
 use Rattle.control_flow.specs.declared.refusal.SourceCause.TheVariants as cause
 use Rattle.control_flow.specs.Outcome.{Fine, Refused, NotBuilt}
 use Rattle.control_flow.specs.Items.{items_at}
@@ -22,13 +22,46 @@ comments : program_of_text (codes "( a) : MAIN ( b c) -1 ( d) DUP ; \\ e ;") ≡
 unfolding items_at source_at
 comments = refl
 
+-- a name is found from its `;` on, and the newest one is
+redefined : program_of_text (codes ": A 65 EMIT ; : A A 66 EMIT ; : MAIN a ;") ≡
+    Fine (program_with (codes "A" ∷ codes "A" ∷ codes "MAIN" ∷ [])
+    ((Then (Literal 65) (Then (Plain Emit) Empty)) ∷ (Then (Call 0) (Then (Literal 66) (Then (Plain Emit) Empty))) ∷ (Then (Call 1) Empty) ∷ []) 2 15)
+unfolding items_at source_at
+redefined = refl
+
+-- a name hides a word, and RECURSE is the definition itself
+hidden : program_of_text (codes ": DUP RECURSE ; : MAIN DUP ;") ≡ Fine (program_with (codes "DUP" ∷ codes "MAIN" ∷ []) ((Then (Call 0) Empty) ∷ (Then (Call 0) Empty) ∷ []) 1 8)
+unfolding items_at source_at
+hidden = refl
+
+structures : program_of_text (codes ": MAIN 1 IF 2 ELSE EXIT THEN BEGIN DUP UNTIL BEGIN 3 WHILE 4 REPEAT BEGIN AGAIN ;") ≡
+    Fine (program_with (codes "MAIN" ∷ []) ((Then (Literal 1) (Then (If (Then (Literal 2) Empty) (Then Exit Empty)) (Then (Until (Then (Plain Dup) Empty))
+    (Then (While (Then (Literal 3) Empty) (Then (Literal 4) Empty)) (Then (Again Empty) Empty))))) ∷ []) 0 19)
+unfolding items_at source_at
+structures = refl
+
+loops : program_of_text (codes ": MAIN DO I IF LEAVE THEN LOOP ?DO LOOP DO +LOOP ;") ≡
+    Fine (program_with (codes "MAIN" ∷ []) ((Then (Do (Then (Plain Index) (Then (If (Then Leave Empty) Empty) Empty)) false) (Then (QDo Empty false) (Then (Do Empty true) Empty))) ∷ []) 0 13)
+unfolding items_at source_at
+loops = refl
+
+cases : program_of_text (codes ": MAIN CASE 1 OF 65 ENDOF 2 OF ENDOF 67 ENDCASE ;") ≡
+    Fine (program_with (codes "MAIN" ∷ []) ((Then (Case (Arm (Then (Literal 1) Empty) (Then (Literal 65) Empty) (Arm (Then (Literal 2) Empty) Empty NoArm)) (Then (Literal 67) Empty)) Empty) ∷ []) 0 13)
+unfolding items_at source_at
+cases = refl
+
+-- the newest MAIN
+two_mains : program_of_text (codes ": MAIN 1 ; : main 2 ;") ≡ Fine (program_with (codes "MAIN" ∷ codes "main" ∷ []) ((Then (Literal 1) Empty) ∷ (Then (Literal 2) Empty) ∷ []) 1 8)
+unfolding items_at source_at
+two_mains = refl
+
+prefixes : program_of_text (codes ": MAIN $-1 %101 'A' ;") ≡ Fine (program_with (codes "MAIN" ∷ []) ((Then (Literal 65535) (Then (Literal 5) (Then (Literal 65) Empty))) ∷ []) 0 6)
+unfolding items_at source_at
+prefixes = refl
+
 nothing : program_of_text [] ≡ Refused 1 cause.NoMain
 unfolding source_at
 nothing = refl
-
-comment_alone : program_of_text (codes "( a)") ≡ Refused 2 cause.NoMain
-unfolding source_at
-comment_alone = refl
 
 other_name : program_of_text (codes ": MAINS ;") ≡ Refused 4 cause.NoMain
 unfolding items_at source_at
@@ -42,47 +75,46 @@ out_of_range : program_of_text (codes ": MAIN 65536 DROP ;") ≡ Refused 3 cause
 unfolding items_at source_at
 out_of_range = refl
 
-unknown_word : program_of_text (codes ": MAIN 1 X2 IF ;") ≡ Refused 4 cause.UnknownWord
+unknown_word : program_of_text (codes ": MAIN 1 X2 . ;") ≡ Refused 4 cause.UnknownWord
 unfolding items_at source_at
 unknown_word = refl
 
--- an unknown word behind one that is not built
-not_built_first : program_of_text (codes ": MAIN 1 IF X2 ;") ≡ NotBuilt
+no_binary : program_of_text (codes ": MAIN %2 ;") ≡ Refused 3 cause.UnknownWord
 unfolding items_at source_at
-not_built_first = refl
+no_binary = refl
 
-colon_last : program_of_text (codes ": ") ≡ Refused 2 cause.NeedsName
-unfolding source_at
-colon_last = refl
+open_if : program_of_text (codes ": F IF ; : MAIN ;") ≡ Refused 4 cause.BadNest
+unfolding items_at source_at
+open_if = refl
+
+of_alone : program_of_text (codes ": F OF ;") ≡ Refused 3 cause.BadNest
+unfolding items_at source_at
+of_alone = refl
+
+leave_alone : program_of_text (codes ": F BEGIN LEAVE UNTIL ;") ≡ Refused 4 cause.BadNest
+unfolding items_at source_at
+leave_alone = refl
+
+seventeen : program_of_text (codes ": MAIN 0 IF 0 IF 0 IF 0 IF 0 IF 0 IF 0 IF 0 IF 0 IF 0 IF 0 IF 0 IF 0 IF 0 IF 0 IF 0 IF 0 IF") ≡ Refused 36 cause.TooDeep
+unfolding items_at source_at
+seventeen = refl
 
 semicolon_as_name : program_of_text (codes ": ; ;") ≡ Refused 2 cause.NeedsName
 unfolding source_at
 semicolon_as_name = refl
 
-parenthesis_as_name : program_of_text (codes ": ( a) MAIN ;") ≡ Refused 2 cause.NeedsName
-unfolding source_at
-parenthesis_as_name = refl
-
-string_word_as_name : program_of_text (codes ": s\" ;") ≡ Refused 2 cause.NeedsName
-unfolding source_at
-string_word_as_name = refl
-
 open_definition : program_of_text (codes ": MAIN 1") ≡ Refused 4 cause.OpenDefinition
 unfolding items_at source_at
 open_definition = refl
 
-name_too_long : program_of_text (codes ": MAIN 12345678901234567890123456789012 ;") ≡ Refused 3 cause.NameTooLong
-unfolding items_at source_at
-name_too_long = refl
-
-foreign_byte : program_of_text (codes ": MAIN IF" ++ 0 ∷ []) ≡ Refused 3 cause.NotText
+foreign_byte : program_of_text (codes ": MAIN ." ++ 0 ∷ []) ≡ Refused 3 cause.NotText
 unfolding items_at source_at
 foreign_byte = refl
 
--- outside a definition only the first `:` is built
-second_colon : program_of_text (codes ": MAIN ; : A ;") ≡ NotBuilt
+-- a token that is not built comes first
+library_word : program_of_text (codes ": MAIN 1 . X2 ;") ≡ NotBuilt
 unfolding items_at source_at
-second_colon = refl
+library_word = refl
 
 word_outside : program_of_text (codes "X : MAIN ;") ≡ NotBuilt
 unfolding source_at
@@ -92,25 +124,16 @@ word_behind : program_of_text (codes ": MAIN ; X") ≡ NotBuilt
 unfolding items_at source_at
 word_behind = refl
 
--- ---- weights: a text of DUPs, each of weight 1
+-- ---- weights: a text of DUPs, each of weight 1, in one definition and in two
 
 abbrev dups : ℕ → List ℕ → List ℕ
 dups zero rest = rest
 dups (suc n) rest = 68 ∷ 85 ∷ 80 ∷ 32 ∷ dups n rest
 
--- DUP is token 3, and 2,399 of them with `;` weigh 2,400
 too_heavy_at_the_end : program_of_text (codes ": MAIN " ++ dups 2400 (codes ";")) ≡ Refused 2403 cause.CodeFull
 unfolding items_at source_at
 too_heavy_at_the_end = refl
 
-too_heavy_inside : program_of_text (codes ": MAIN 1 " ++ dups 2399 (codes ";")) ≡ Refused 2402 cause.CodeFull
+too_heavy_loop : program_of_text (codes ": MAIN DO " ++ dups 2381 (codes "LOOP ;")) ≡ Refused 2385 cause.CodeFull
 unfolding items_at source_at
-too_heavy_inside = refl
-
-abbrev all_dups : ℕ → Nodes
-all_dups zero = Empty
-all_dups (suc n) = Then (Plain Dup) (all_dups n)
-
-just_fits : program_of_text (codes ": MAIN " ++ dups 2399 (codes ";")) ≡ Fine (program_with (codes "MAIN" ∷ []) ((all_dups 2399) ∷ []) 0 2402)
-unfolding items_at source_at
-just_fits = refl
+too_heavy_loop = refl

@@ -1,7 +1,10 @@
 pub mod Examples
-pub mod Growing
 pub mod Readings
-pub mod Fitting
-pub mod OneDefinition
-pub mod Judged
-pub mod Lines
+pub mod Growing
+pub mod ArmLists
+pub mod Nests
+pub mod Senses
+pub mod Moves
+pub mod ItemFacts
+pub mod SourceFacts
+pub mod SourceSteps

@@ -1,7 +1,7 @@
 pub mod Outcome
+pub mod Nest
 pub mod Sense
 pub mod Items
 pub mod SourceText
-pub mod OneDefinition
 pub mod Answers
 pub mod SourceLaw

@@ -1,25 +1,21 @@
 -- The program of a source text, definition by definition.
-use Rattle.std.specs.Prelude.{ℕ, zero, suc, ◌+◌, List, [], ◌∷◌, ◌++◌, length, replicate, Bool, true, false, Option, Some, None, codes}
-use Rattle.std.specs.Str.{str_eq_ignore_ascii_case}
+use Rattle.std.specs.Prelude.{ℕ, zero, suc, ◌+◌, nat_lt, List, [], ◌∷◌, ◌++◌, length, replicate, Bool, true, false, Option, Some, None, codes}
 use Rattle.word_table.specs.declared.word.Word.{Word}
 use Rattle.word_table.specs.declared.word.Word.TheVariants.{Colon, Semicolon, Paren, Backslash, DotQuote, SQuote, AbortQuote}
 use Rattle.word_table.specs.Names.{word_named}
 use Rattle.forth_program.specs.Tree.{Nodes}
 use Rattle.forth_program.specs.Program.{SourceProgram}
 use Rattle.forth_reader.specs.Reading.{Reading, NoMore, Reads, Refuses, next_from, name_from}
+use Rattle.dictionary_core.specs.Pairs.{pair, newest_value}
 use Rattle.control_flow.specs.declared.refusal.SourceCause.TheVariants as cause
-use Rattle.control_flow.specs.Outcome.{Place, Outcome, Fine, Refused, NotBuilt, Endless, ◌>>=◌, source_cause}
+use Rattle.control_flow.specs.declared.nest.Ending.{Ending}
+use Rattle.control_flow.specs.declared.nest.Ending.TheVariants as ending
+use Rattle.control_flow.specs.Outcome.{Place, Outcome, Fine, Refused, NotBuilt, Endless, ◌>>=◌, source_cause, unfit}
 use Rattle.control_flow.specs.Items.{items_at}
 
 -- a name that was read, and where it ends
 pub record Named : Type 0 where
   pub name : List ℕ
-  pub at : Place
-
--- a definition, and where its `;` ends
-pub record Definition : Type 0 where
-  pub name : List ℕ
-  pub nodes : Nodes
   pub at : Place
 
 -- the words whose names cannot be defined
@@ -37,24 +33,46 @@ abbrev pub is_reserved_name : Option Word → Bool
 is_reserved_name (Some word) = is_reserved word
 is_reserved_name None = false
 
-abbrev pub named_of : ℕ → Reading → Outcome Named
-named_of weight (NoMore tokens) = Refused (tokens + 1) cause.NeedsName
-named_of weight (Refuses number c) = Refused number (source_cause c)
-named_of weight (Reads token number rest) = elim (is_reserved_name (word_named token)) [
+-- a name with this number that can be defined is the 513th, or not
+abbrev pub roomed : List ℕ → Place → Outcome Named
+roomed name at = elim (nat_lt (length at.entries) 512) [ true ↦ Fine (record { name = name; at = at }) | false ↦ Refused at.count cause.TooManyWords ]
+
+abbrev pub named_of : Place → Reading → Outcome Named
+named_of at (NoMore tokens) = Refused (tokens + 1) cause.NeedsName
+named_of at (Refuses number c) = Refused number (source_cause c)
+named_of at (Reads token number rest) = elim (is_reserved_name (word_named token)) [
   | true ↦ Refused number cause.NeedsName
-  | false ↦ Fine (record { name = token; at = record { rest = rest; count = number; weight = weight } })
+  | false ↦ roomed token (record at { rest = rest; count = number })
 ]
 
 -- the name of a definition, behind its `:`
 abbrev pub name_at : Place → Outcome Named
-name_at at = named_of at.weight (name_from at.count at.rest)
+name_at at = named_of at (name_from at.count at.rest)
 
-abbrev pub definition_named : ℕ → Named → Outcome Definition
-definition_named n named = items_at n named.at >>= λ many. Fine (record { name = named.name; nodes = many.nodes; at = many.at })
+-- a source so far: where it is read on, and the names and bodies of its definitions, in their order
+pub record Source : Type 0 where
+  pub at : Place
+  pub names : List (List ℕ)
+  pub bodies : List Nodes
 
--- a definition behind its `:`
-abbrev pub definition_at : ℕ → Place → Outcome Definition
-definition_at n at = name_at at >>= definition_named n
+-- the name is found from here on
+abbrev pub with_entry : List ℕ → Place → Place
+with_entry name at = record at { entries = at.entries ++ pair name at.definitions ∷ []; definitions = at.definitions + 1 }
+
+abbrev pub with_definition : Source → List ℕ → Nodes → Place → Source
+with_definition source name nodes at = record { at = with_entry name at; names = source.names ++ name ∷ []; bodies = source.bodies ++ nodes ∷ [] }
+
+-- a definition ends with its `;`
+abbrev pub defined_by : Source → List ℕ → Nodes → Place → Ending → Outcome Source
+defined_by source name nodes at ending.Semicolon = Fine (with_definition source name nodes at)
+defined_by source name nodes at e = unfit at
+
+abbrev pub definition_named : ℕ → Source → Named → Outcome Source
+definition_named n source named = items_at n named.at >>= λ many. defined_by source named.name many.nodes many.at many.ending
+
+-- a definition behind its `:`, where the source is read on at a place
+abbrev pub definition_at : ℕ → Source → Place → Outcome Source
+definition_at n source at = name_at at >>= definition_named n source
 
 abbrev pub is_colon : Word → Bool
 is_colon Colon = true
@@ -64,41 +82,22 @@ abbrev pub is_colon_name : Option Word → Bool
 is_colon_name (Some word) = is_colon word
 is_colon_name None = false
 
--- a source so far: where it is read on, and the names and bodies of its definitions, in their order
-pub record Source : Type 0 where
-  pub at : Place
-  pub names : List (List ℕ)
-  pub bodies : List Nodes
-
 -- what stands outside definitions: a `:` or the end of the text, and where it ends
 pub record Outside : Type 0 where
   pub begins : Bool
   pub at : Place
 
--- only the first `:` is built
-abbrev pub colon_by : List Nodes → Bool → Place → Outcome Outside
-colon_by [] true at = Fine (record { begins = true; at = at })
-colon_by [] false at = NotBuilt
-colon_by (body ∷ bodies) is_colon at = NotBuilt
-
-abbrev pub outside_of : List Nodes → ℕ → Reading → Outcome Outside
-outside_of bodies weight (NoMore tokens) = Fine (record { begins = false; at = record { rest = []; count = tokens; weight = weight } })
-outside_of bodies weight (Refuses number c) = Refused number (source_cause c)
-outside_of bodies weight (Reads token number rest) = colon_by bodies (is_colon_name (word_named token)) (record { rest = rest; count = number; weight = weight })
-
-abbrev pub outside_at : Source → Outcome Outside
-outside_at source = outside_of source.bodies source.at.weight (next_from source.at.count source.at.rest)
-
-abbrev pub with_definition : Source → Definition → Source
-with_definition source d = record { at = d.at; names = source.names ++ d.name ∷ []; bodies = source.bodies ++ d.nodes ∷ [] }
-
--- the place of the newest definition MAIN, letters in either case
-abbrev pub newest_main : List (List ℕ) → Option ℕ
-newest_main [] = None
-newest_main (name ∷ names) = elim (newest_main names) [
-  | Some place ↦ Some (place + 1)
-  | None ↦ elim (str_eq_ignore_ascii_case name (codes "MAIN")) [ true ↦ Some 0 | false ↦ None ]
+-- every other token is not built
+abbrev pub outside_of : Place → Reading → Outcome Outside
+outside_of at (NoMore tokens) = Fine (record { begins = false; at = record at { rest = []; count = tokens } })
+outside_of at (Refuses number c) = Refused number (source_cause c)
+outside_of at (Reads token number rest) = elim (is_colon_name (word_named token)) [
+  | true ↦ Fine (record { begins = true; at = record at { rest = rest; count = number } })
+  | false ↦ NotBuilt
 ]
+
+abbrev pub outside_at : Place → Outcome Outside
+outside_at at = outside_of at (next_from at.count at.rest)
 
 -- the cells BASE, hold pointer and HERE at 8192, 8194 and 8196, and zeros up to the first free byte 8320
 abbrev pub fixed_space : List ℕ
@@ -117,26 +116,30 @@ program_with names bodies main tokens = record {
 }
 
 -- at the end of the text there has to be a MAIN
-abbrev pub program_of : Source → ℕ → Outcome SourceProgram
-program_of source tokens = elim (newest_main source.names) [
-  | Some main ↦ Fine (program_with source.names source.bodies main tokens)
-  | None ↦ Refused (tokens + 1) cause.NoMain
+abbrev pub program_of : Source → Place → Outcome SourceProgram
+program_of source at = elim (newest_value at.entries (codes "MAIN")) [
+  | Some main ↦ Fine (program_with source.names source.bodies main at.count)
+  | None ↦ Refused (at.count + 1) cause.NoMain
 ]
 
 -- a definition and what follows it, or the end
 abbrev pub source_by : (Source → Outcome SourceProgram) → ℕ → Source → Outside → Outcome SourceProgram
 source_by go n source outside = elim outside.begins [
-  | true ↦ definition_at n outside.at >>= λ d. go (with_definition source d)
-  | false ↦ program_of source outside.at.count
+  | true ↦ definition_at n source outside.at >>= go
+  | false ↦ program_of source outside.at
 ]
 
 -- the program of a source from a place outside definitions on, where fewer than n tokens are read
 unfoldable pub source_at : ℕ → Source → Outcome SourceProgram
 source_at zero source = Endless
-source_at (suc n) source = outside_at source >>= source_by (source_at n) n source
+source_at (suc n) source = outside_at source.at >>= source_by (source_at n) n source
+
+-- a text at its start
+abbrev pub beginning : List ℕ → Place
+beginning text = record { rest = text; count = 0; weight = 0; nest = []; entries = []; definitions = 0 }
 
 abbrev pub started : List ℕ → Source
-started text = record { at = record { rest = text; count = 0; weight = 0 }; names = []; bodies = [] }
+started text = record { at = beginning text; names = []; bodies = [] }
 
 -- the program of a text, its first refusal, or that it is not built yet
 abbrev pub program_of_text : List ℕ → Outcome SourceProgram

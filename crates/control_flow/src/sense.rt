@@ -4,6 +4,7 @@ ghost use Rattle.word_table.specs.Names.{word_named};
 ghost use Rattle.control_flow.specs.Sense.{sense_of, word_sense, structure_sense, number_sense};
 ghost use Rattle.control_flow.specs.SourceText.{is_reserved, is_reserved_name, is_colon, is_colon_name};
 
+use crate::nest::{Ending, Opening};
 use forth_reader::{NumberRead, number_of};
 use word_table::{Class, Word, entry, word_of};
 
@@ -12,10 +13,20 @@ use word_table::{Class, Word, entry, word_of};
 pub(crate) enum Sense {
     /// A number, as a cell.
     Number(u16),
-    /// An inline word.
+    /// An inline word, or a word on return entries.
     Plain(Word),
-    /// `;`.
-    Ends,
+    /// A definition, by its number.
+    Calls(u16),
+    /// `RECURSE`.
+    Recurses,
+    /// A word that opens a structure.
+    Opens(Opening),
+    /// A word that ends a list of items.
+    Ends(Ending),
+    /// `LEAVE`.
+    Leaves,
+    /// `EXIT`.
+    Exits,
     /// A number that is out of range.
     OutOfRange,
     /// No word and no number.
@@ -28,7 +39,32 @@ fn structure_sense(word: Word) -> Sense
     ensures { result ≡ structure_sense word }
 {
     match word {
-        Word::Semicolon => Sense::Ends,
+        Word::ToR => Sense::Plain(word),
+        Word::RFrom => Sense::Plain(word),
+        Word::RFetch => Sense::Plain(word),
+        Word::Index => Sense::Plain(word),
+        Word::OuterIndex => Sense::Plain(word),
+        Word::Unloop => Sense::Plain(word),
+        Word::If => Sense::Opens(Opening::If),
+        Word::Begin => Sense::Opens(Opening::Begin),
+        Word::Do => Sense::Opens(Opening::Do),
+        Word::QDo => Sense::Opens(Opening::QDo),
+        Word::Case => Sense::Opens(Opening::Case),
+        Word::Else => Sense::Ends(Ending::Else),
+        Word::Then => Sense::Ends(Ending::Then),
+        Word::Until => Sense::Ends(Ending::Until),
+        Word::While => Sense::Ends(Ending::While),
+        Word::Repeat => Sense::Ends(Ending::Repeat),
+        Word::Again => Sense::Ends(Ending::Again),
+        Word::Loop => Sense::Ends(Ending::Loop),
+        Word::PlusLoop => Sense::Ends(Ending::PlusLoop),
+        Word::Of => Sense::Ends(Ending::Of),
+        Word::EndOf => Sense::Ends(Ending::EndOf),
+        Word::EndCase => Sense::Ends(Ending::EndCase),
+        Word::Semicolon => Sense::Ends(Ending::Semicolon),
+        Word::Leave => Sense::Leaves,
+        Word::Exit => Sense::Exits,
+        Word::Recurse => Sense::Recurses,
         _ => Sense::NotYet,
     }
 }
@@ -54,7 +90,7 @@ fn number_sense(number: NumberRead) -> Sense
     }
 }
 
-/// What a token stands for: first a word of the table, then a number in base ten.
+/// What a token stands for that is no name of a definition: first a word of the table, then a number in base ten.
 pub(crate) fn sense_of(token: &str) -> Sense
     ensures { result ≡ sense_of token.now }
 {

@@ -1,29 +1,28 @@
 // Reading a whole source.
-ghost use Rattle.std.specs.Prelude.{◌≡◌, ◌∷◌, [], ◌<◌, length, IfOk};
+ghost use Rattle.std.specs.Prelude.{◌≡◌, ◌∷◌, [], ℕ, ◌+◌, ◌<◌, ◌≤◌, length, true, IfOk, IfErr, OnOk};
 ghost use Rattle.forth_program.specs.Form.{IsProgram};
 ghost use Rattle.forth_program.specs.ItemTrees.{tree_of};
 ghost use Rattle.forth_reader.specs.ReaderState.{IsToken};
-ghost use Rattle.control_flow.specs.SourceText.{fixed_space, program_with, program_of_text};
-ghost use Rattle.control_flow.specs.OneDefinition.{one_definition};
-ghost use Rattle.control_flow.specs.Answers.{Gives};
+ghost use Rattle.control_flow.specs.Outcome.{Each};
+ghost use Rattle.control_flow.specs.SourceText.{fixed_space, started, with_definition, definition_at, program_of, program_of_text};
+ghost use Rattle.control_flow.specs.Answers.{place_of, source_of, IsReady, IsCounted, Gives};
 
 use crate::compiler::Compiler;
+use crate::nest::{Ending, Nest};
 use crate::refusal::{SourceCause, SourceError, refused};
+use dictionary_core::Dictionary;
 use forth_program::{DefId, Items, Name, Program, ProgramParts};
 use forth_reader::Reader;
 use std::alloc::{AllocError, Global};
 
-/// One name alone.
-fn name_alone(alloc: Global, text: &str) -> Result<Vec<Name>, AllocError>
-    requires { IsToken text.now }
-    ensures { IfOk result (λ names. names.items ≡ text.now ∷ []) }
-{
-    let mut names = Vec::new(alloc);
-    match Name::new(text) {
-        Some(name) => names.push(name)?,
-        None => unreachable!(),
-    }
-    Ok(names)
+/// What is read of a source so far.
+#[derive(Drop)]
+pub(crate) struct ReadSource<'a> {
+    pub(crate) compiler: Compiler<'a>,
+    /// The name of each definition.
+    pub(crate) names: Vec<Name>,
+    /// The items of each definition, in the same order.
+    pub(crate) bodies: Vec<Items>,
 }
 
 /// The fixed cells, and zeros up to the first free byte.
@@ -35,49 +34,113 @@ fn fixed_space(alloc: Global) -> Result<Vec<u8>, AllocError>
     Ok(space)
 }
 
-/// The program of one definition, whose source has so many tokens.
-fn program_with(alloc: Global, name: &str, items: Items, tokens: u32) -> Result<Program, AllocError>
-    requires name { IsToken name.now }
-    requires form { IsProgram (program_with (name.now ∷ []) (tree_of items ∷ []) 0 tokens) }
-    ensures { IfOk result (λ program. program ≡ program_with (name.now ∷ []) (tree_of items ∷ []) 0 tokens) }
-{
-    let names = name_alone(alloc, name)?;
-    let mut bodies = Vec::new(alloc);
-    bodies.push(items)?;
-    let space = fixed_space(alloc)?;
-    Program::new(
-        alloc,
-        ProgramParts {
+impl<'a> ReadSource<'a> {
+    /// A source at its start.
+    fn new(alloc: Global, bytes: &'a [u8]) -> Result<ReadSource<'a>, AllocError>
+        requires { length bytes.now < 4294967295 }
+        ensures start { IfOk result (λ source. source_of source ≡ started bytes.now) }
+        ensures ready { IfOk result (λ source. IsReady source.compiler) }
+        ensures counted { IfOk result (λ source. IsCounted source) }
+    {
+        let dictionary = Dictionary::new(alloc)?;
+        Ok(ReadSource {
+            compiler: Compiler {
+                reader: Reader::new(bytes),
+                weight: 0,
+                nest: Nest::new(),
+                dictionary,
+                definitions: 0,
+            },
+            names: Vec::new(alloc),
+            bodies: Vec::new(alloc),
+        })
+    }
+
+    /// A definition that was read stands behind the others, and its name is found from here on.
+    fn define(&mut self, name: &str, items: Items) -> Result<(), SourceError>
+        requires form { IsToken name.now }
+        requires ready { IsReady self.old.compiler }
+        requires counted { IsCounted self.old }
+        ensures done { OnOk result (source_of self.new ≡ with_definition (source_of self.old) name.now (tree_of items) (place_of self.old.compiler)) }
+        ensures memory { IfErr result (λ error. error ≡ SourceError.OutOfMemory) }
+        ensures same { length self.new.compiler.reader.rest ≡ length self.old.compiler.reader.rest }
+        ensures ready { OnOk result (IsReady self.new.compiler) }
+        ensures counted { OnOk result (IsCounted self.new) }
+        ensures longer { OnOk result (length self.new.bodies.items ≡ length self.old.bodies.items + 1) }
+    {
+        let definition = self.compiler.definitions;
+        match self.compiler.dictionary.add(name, definition) {
+            Ok(_) => {}
+            Err(_) => return Err(SourceError::OutOfMemory),
+        }
+        let kept = match Name::new(name) {
+            Some(kept) => kept,
+            None => unreachable!(),
+        };
+        match self.names.push(kept) {
+            Ok(()) => {}
+            Err(_) => return Err(SourceError::OutOfMemory),
+        }
+        match self.bodies.push(items) {
+            Ok(()) => {}
+            Err(_) => return Err(SourceError::OutOfMemory),
+        }
+        self.compiler.definitions += 1;
+        Ok(())
+    }
+
+    /// A definition behind its `:`.
+    fn definition(&mut self, alloc: Global) -> Result<(), SourceError>
+        requires ready { IsReady self.old.compiler }
+        requires counted { IsCounted self.old }
+        ensures gives { (n : ℕ) → length self.old.compiler.reader.rest < n → Gives (λ _. source_of self.new) result (definition_at n (source_of self.old) (place_of self.old.compiler)) }
+        ensures shorter { OnOk result (length self.new.compiler.reader.rest ≤ length self.old.compiler.reader.rest) }
+        ensures ready { OnOk result (IsReady self.new.compiler) }
+        ensures counted { OnOk result (IsCounted self.new) }
+        ensures longer { OnOk result (length self.new.bodies.items ≡ length self.old.bodies.items + 1) }
+    {
+        let name = self.compiler.name()?;
+        let body = self.compiler.items(alloc)?;
+        match body.ending {
+            Ending::Semicolon => self.define(name, body.items),
+            _ => refused(self.compiler.reader.count(), SourceCause::BadNest),
+        }
+    }
+
+    /// The program, at the end of the text.
+    fn program(self, alloc: Global) -> Result<Program, SourceError>
+        requires counted { IsCounted self }
+        requires form { Each IsProgram (program_of (source_of self) (place_of self.compiler)) }
+        ensures { Gives (λ program. program) result (program_of (source_of self.entry) (place_of self.entry.compiler)) }
+    {
+        let ReadSource {
+            mut compiler,
             names,
             bodies,
-            main: DefId(0),
-            tokens: Vec::new(alloc),
-            data_start: 8192,
-            space,
-            source_tokens: tokens,
-        },
-    )
-}
-
-/// The program of a text of one definition, or its first refusal.
-fn one_definition(alloc: Global, bytes: &[u8]) -> Result<Program, SourceError>
-    requires { length bytes.now < 4294967295 }
-    ensures { Gives (λ program. program) result (one_definition bytes.now) }
-{
-    let mut compiler = Compiler {
-        reader: Reader::new(bytes),
-        weight: 0,
-    };
-    compiler.colon()?;
-    let name = compiler.name()?;
-    let items = compiler.items(alloc)?;
-    let tokens = compiler.ending()?;
-    if !name.eq_ignore_ascii_case("MAIN") {
-        return refused(tokens + 1, SourceCause::NoMain);
-    }
-    match program_with(alloc, name, items, tokens) {
-        Ok(program) => Ok(program),
-        Err(AllocError) => Err(SourceError::OutOfMemory),
+        } = self;
+        let tokens = compiler.reader.count();
+        let Some(main) = compiler.dictionary.look_up("MAIN") else {
+            return refused(tokens + 1, SourceCause::NoMain);
+        };
+        let space = match fixed_space(alloc) {
+            Ok(space) => space,
+            Err(AllocError) => return Err(SourceError::OutOfMemory),
+        };
+        match Program::new(
+            alloc,
+            ProgramParts {
+                names,
+                bodies,
+                main: DefId(main),
+                tokens: Vec::new(alloc),
+                data_start: 8192,
+                space,
+                source_tokens: tokens,
+            },
+        ) {
+            Ok(program) => Ok(program),
+            Err(AllocError) => Err(SourceError::OutOfMemory),
+        }
     }
 }
 
@@ -85,10 +148,25 @@ fn one_definition(alloc: Global, bytes: &[u8]) -> Result<Program, SourceError>
 ///
 /// The text is read from its start, and the first token that is refused, or that is not built yet, decides. A refusal at the
 /// end of the text has the number of all tokens and one more.
-#[tactic(auto, using(crate::proofs::OneDefinition::one_definition_is))]
 pub fn read_program(alloc: Global, bytes: &[u8]) -> Result<Program, SourceError>
     requires { length bytes.now < 4294967295 }
     ensures { Gives (λ program. program) result (program_of_text bytes.now) }
 {
-    one_definition(alloc, bytes)
+    let mut source = match ReadSource::new(alloc, bytes) {
+        Ok(source) => source,
+        Err(AllocError) => return Err(SourceError::OutOfMemory),
+    };
+    'definitions: loop {
+        let begins = match source.compiler.outside() {
+            Ok(begins) => begins,
+            Err(error) => return Err(error),
+        };
+        if !begins {
+            return source.program(alloc);
+        }
+        match source.definition(alloc) {
+            Ok(()) => {}
+            Err(error) => return Err(error),
+        }
+    }
 }

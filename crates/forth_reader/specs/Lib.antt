@@ -4,3 +4,4 @@ pub mod ReaderState
 pub mod Number
 pub mod Splitting
 pub mod TokenList
+pub mod NameList

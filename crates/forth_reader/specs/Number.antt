@@ -1,6 +1,7 @@
--- The number that a token spells in a base (ANS Forth, 3.4.1.3 and 3.2.1.2).
-use Rattle.std.specs.Prelude.{ℕ, ◌+◌, ◌-◌, ◌*◌, ◌^◌, nat_le, nat_lt, ◌==◌, ◌&&◌, Bool, true, false, List, [], ◌∷◌, length}
+-- The number that a token spells (Forth 2012, 3.4.1.3).
+use Rattle.std.specs.Prelude.{ℕ, ◌+◌, ◌-◌, ◌*◌, ◌^◌, nat_le, nat_lt, ◌==◌, ◌&&◌, Bool, true, false, List, [], ◌∷◌, length, slice_index_or, Option, Some, None}
 use Rattle.std.specs.List.{list_all}
+use Rattle.forth_reader.specs.Bytes.{is_graphic}
 use Rattle.forth_reader.specs.declared.number.NumberRead.{NumberRead}
 use Rattle.forth_reader.specs.declared.number.NumberRead.TheVariants.{Value, Range, NotNumber}
 
@@ -45,6 +46,29 @@ abbrev pub signed_read : ℕ → List ℕ → NumberRead
 signed_read base [] = NotNumber
 signed_read base (b ∷ bs) = elim (b == 45) [ true ↦ digits_read base true bs | false ↦ digits_read base false (b ∷ bs) ]
 
--- in a base outside 2 to 36 no token is a number
+-- in a base outside 2 to 36 there is none
+abbrev pub based_read : ℕ → List ℕ → NumberRead
+based_read base text = elim (nat_le 2 base && nat_le base 36) [ true ↦ signed_read base text | false ↦ NotNumber ]
+
+-- the base that `#`, `$` or `%` in front of a number stands for
+abbrev pub prefix_base : ℕ → Option ℕ
+prefix_base byte = elim (byte == 35) [
+  | true ↦ Some 10
+  | false ↦ elim (byte == 36) [ true ↦ Some 16 | false ↦ elim (byte == 37) [ true ↦ Some 2 | false ↦ None ] ]
+]
+
+-- the byte between two quotes
+abbrev pub quoted_byte : List ℕ → Option ℕ
+quoted_byte text = elim (length text == 3 && slice_index_or text 0 0 == 39 && slice_index_or text 2 0 == 39 && is_graphic (slice_index_or text 1 0)) [
+  | true ↦ Some (slice_index_or text 1 0)
+  | false ↦ None
+]
+
+-- a quoted byte, or a number in the present base
+abbrev pub unprefixed_read : ℕ → List ℕ → NumberRead
+unprefixed_read base text = elim (quoted_byte text) [ Some byte ↦ Value byte | None ↦ based_read base text ]
+
+-- the number that a token spells, in the present base where it says no other
 abbrev pub number_read : ℕ → List ℕ → NumberRead
-number_read base text = elim (nat_le 2 base && nat_le base 36) [ true ↦ signed_read base text | false ↦ NotNumber ]
+number_read base [] = NotNumber
+number_read base (b ∷ bs) = elim (prefix_base b) [ Some own ↦ signed_read own bs | None ↦ unprefixed_read base (b ∷ bs) ]

@@ -12,6 +12,7 @@ mod ascii;
 mod bytes;
 mod comments;
 mod laws;
+mod names;
 mod number;
 mod reader;
 mod refusal;
@@ -20,6 +21,7 @@ mod strings;
 mod token;
 
 pub use laws::{readings_are_splittings, texts_have_one_token_list};
+pub use names::Names;
 pub use number::{NumberRead, number_of};
 pub use reader::Reader;
 pub use refusal::{ReadCause, ReadRefusal};

@@ -1,6 +1,8 @@
-// Tokens as numbers (ANS Forth, 3.4.1.3).
-ghost use Rattle.std.specs.Prelude.{◌≡◌, ◌≤◌};
-ghost use Rattle.forth_reader.specs.Number.{raised_letter, digit_value, digits_read, number_read};
+// Tokens as numbers (Forth 2012, 3.4.1.3).
+ghost use Rattle.std.specs.Prelude.{◌≡◌, ◌≤◌, IfSome};
+ghost use Rattle.forth_reader.specs.Number.{raised_letter, digit_value, digits_read, signed_read, prefix_base, quoted_byte, unprefixed_read, number_read};
+
+use crate::bytes::is_graphic;
 
 /// What a token is as a number.
 #[derive(Clone, Copy, Debug, PartialEq, Eq)]
@@ -71,17 +73,69 @@ fn digits_read(text: &[u8], base: u16, is_negative: bool) -> NumberRead
     }
 }
 
-/// The number that a token spells in a base: an optional `-` and one or more digits of the base, letters in either case
-/// standing for 10 and more. In a base outside 2 to 36 no token is a number.
-pub fn number_of(text: &str, base: u16) -> NumberRead
-    ensures { result ≡ number_read base text.now }
+// An optional `-`, and digits.
+fn signed_read(text: &[u8], base: u16) -> NumberRead
+    requires { (1 ≤ base) × (base ≤ 36) }
+    ensures { result ≡ signed_read base text.now }
 {
+    match text.split_first() {
+        Some((byte, tail)) if *byte == b'-' => digits_read(tail, base, true),
+        Some(_) => digits_read(text, base, false),
+        None => NumberRead::NotNumber,
+    }
+}
+
+// The base that a prefix stands for.
+fn prefix_base(byte: u8) -> Option<u16>
+    ensures value { result ≡ prefix_base byte }
+    ensures base { IfSome result (λ base. (1 ≤ base) × (base ≤ 36)) }
+{
+    if byte == b'#' {
+        Some(10)
+    } else if byte == b'$' {
+        Some(16)
+    } else if byte == b'%' {
+        Some(2)
+    } else {
+        None
+    }
+}
+
+// The byte between two quotes.
+fn quoted_byte(text: &[u8]) -> Option<u8>
+    ensures { result ≡ quoted_byte text.now }
+{
+    if text.len() == 3 && text[0] == b'\'' && text[2] == b'\'' && is_graphic(text[1]) {
+        Some(text[1])
+    } else {
+        None
+    }
+}
+
+// A quoted byte, or a number in the present base.
+fn unprefixed_read(text: &[u8], base: u16) -> NumberRead
+    ensures { result ≡ unprefixed_read base text.now }
+{
+    if let Some(byte) = quoted_byte(text) {
+        return NumberRead::Value(byte as u16);
+    }
     if base < 2 || base > 36 {
         return NumberRead::NotNumber;
     }
+    signed_read(text, base)
+}
+
+/// The number that a token spells: an optional `-` and one or more digits of the present base, letters in either case standing
+/// for 10 and more; `#`, `$` or `%` and the same in base 10, 16 or 2; or a byte between two quotes (Forth 2012, 3.4.1.3). Where
+/// the present base is outside 2 to 36, only the last two are numbers.
+pub fn number_of(text: &str, base: u16) -> NumberRead
+    ensures { result ≡ number_read base text.now }
+{
     match text.as_bytes().split_first() {
-        Some((byte, tail)) if *byte == b'-' => digits_read(tail, base, true),
-        Some(_) => digits_read(text.as_bytes(), base, false),
+        Some((byte, tail)) => match prefix_base(*byte) {
+            Some(own) => signed_read(tail, own),
+            None => unprefixed_read(text.as_bytes(), base),
+        },
         None => NumberRead::NotNumber,
     }
 }

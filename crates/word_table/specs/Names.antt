@@ -9,7 +9,7 @@ use Rattle.word_table.specs.declared.word.Word.TheVariants.{TwoSlash, CFetch, CS
 use Rattle.word_table.specs.declared.word.Word.TheVariants.{FMSlashMod, SlashMod, Slash, Mod, StarSlashMod, StarSlash, LessSharp, Hold, Sign, Sharp, SharpS, SharpGreater, Dot, UDot, TypeOut, Spaces}
 use Rattle.word_table.specs.declared.word.Word.TheVariants.{Fill, Move, Accept, ToNumber, Execute, SQuote, DotQuote, AbortQuote, If, While, Until, Else, Repeat, Then, Begin, Do, Loop, PlusLoop, Leave}
 use Rattle.word_table.specs.declared.word.Word.TheVariants.{Exit, Semicolon, Recurse, BracketTick, BracketChar, Literal, LeftBracket, RightBracket, Paren, Backslash, Colon, Tick, Char, Constant}
-use Rattle.word_table.specs.declared.word.Word.TheVariants.{Variable, Create, Does, ToBody}
+use Rattle.word_table.specs.declared.word.Word.TheVariants.{Variable, Create, Does, ToBody, QDo, Again, Case, Of, EndOf, EndCase}
 use Rattle.word_table.specs.Table.{row}
 
 -- the name of a word, letters in upper case
@@ -30,7 +30,7 @@ all_words =
     TwoStore ∷ Count ∷ Comma ∷ CComma ∷ Allot ∷ Align ∷ UMStar ∷ MStar ∷ Star ∷ UMSlashMod ∷ SMSlashRem ∷ FMSlashMod ∷ SlashMod ∷
     Slash ∷ Mod ∷ StarSlashMod ∷ StarSlash ∷ LessSharp ∷ Hold ∷ Sign ∷ Sharp ∷ SharpS ∷ SharpGreater ∷ Dot ∷ UDot ∷ TypeOut ∷ Spaces ∷
     Fill ∷ Move ∷ Accept ∷ ToNumber ∷ Execute ∷ SQuote ∷ DotQuote ∷ AbortQuote ∷ If ∷ While ∷ Until ∷ Else ∷ Repeat ∷ Then ∷ Begin ∷
-    Do ∷ Loop ∷ PlusLoop ∷ Leave ∷ Exit ∷ Semicolon ∷ Recurse ∷ BracketTick ∷ BracketChar ∷ Literal ∷ LeftBracket ∷ RightBracket ∷
+    Do ∷ Loop ∷ PlusLoop ∷ QDo ∷ Again ∷ Case ∷ Of ∷ EndOf ∷ EndCase ∷ Leave ∷ Exit ∷ Semicolon ∷ Recurse ∷ BracketTick ∷ BracketChar ∷ Literal ∷ LeftBracket ∷ RightBracket ∷
     Paren ∷ Backslash ∷ Colon ∷ Tick ∷ Char ∷ Constant ∷ Variable ∷ Create ∷ Does ∷ ToBody ∷ []
 
 -- the first of these words whose name is this text in lower case

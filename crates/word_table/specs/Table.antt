@@ -8,7 +8,7 @@ use Rattle.word_table.specs.declared.word.Word.TheVariants.{CStore, PlusStore, T
 use Rattle.word_table.specs.declared.word.Word.TheVariants.{Slash, Mod, StarSlashMod, StarSlash, LessSharp, Hold, Sign, Sharp, SharpS, SharpGreater, Dot, UDot, TypeOut, Spaces, Fill, Move, Accept}
 use Rattle.word_table.specs.declared.word.Word.TheVariants.{ToNumber, Execute, SQuote, DotQuote, AbortQuote, If, While, Until, Else, Repeat, Then, Begin, Do, Loop, PlusLoop, Leave, Exit, Semicolon}
 use Rattle.word_table.specs.declared.word.Word.TheVariants.{Recurse, BracketTick, BracketChar, Literal, LeftBracket, RightBracket, Paren, Backslash, Colon, Tick, Char, Constant, Variable, Create, Does}
-use Rattle.word_table.specs.declared.word.Word.TheVariants.{ToBody}
+use Rattle.word_table.specs.declared.word.Word.TheVariants.{ToBody, QDo, Again, Case, Of, EndOf, EndCase}
 use Rattle.word_table.specs.declared.word.WordEntry.{WordEntry}
 use Rattle.word_table.specs.Row.{Row, change, inline, never, on_returns, library, structure, host}
 
@@ -124,6 +124,12 @@ row Begin = structure "BEGIN" 0 0 0 0 0 0 0
 row Do = structure "DO" 2 0 1 0 8 0 8
 row Loop = structure "LOOP" 0 0 2 0 12 0 12
 row PlusLoop = structure "+LOOP" 1 0 4 0 24 0 24
+row QDo = structure "?DO" 2 0 2 0 12 0 15
+row Again = structure "AGAIN" 0 0 0 0 1 0 1
+row Case = structure "CASE" 0 0 0 0 0 0 0
+row Of = structure "OF" 2 2 1 0 4 0 4
+row EndOf = structure "ENDOF" 0 0 0 0 1 0 1
+row EndCase = structure "ENDCASE" 1 0 0 0 1 0 1
 row Leave = structure "LEAVE" 0 0 1 0 5 0 5
 row Exit = structure "EXIT" 0 0 0 0 1 0 1
 row Semicolon = structure ";" 0 0 0 0 1 0 1

@@ -6,7 +6,7 @@ ghost use Rattle.word_table.specs.Names.{name_of, word_named, first_named, is_na
 
 use crate::word::Word;
 
-const WORDS: [Word; 125] = [
+const WORDS: [Word; 131] = [
     Word::Dup,
     Word::DropTop,
     Word::Swap,
@@ -113,6 +113,12 @@ const WORDS: [Word; 125] = [
     Word::Do,
     Word::Loop,
     Word::PlusLoop,
+    Word::QDo,
+    Word::Again,
+    Word::Case,
+    Word::Of,
+    Word::EndOf,
+    Word::EndCase,
     Word::Leave,
     Word::Exit,
     Word::Semicolon,
@@ -278,6 +284,12 @@ fn name_text(word: Word) -> &'static str
         Word::Do => "DO",
         Word::Loop => "LOOP",
         Word::PlusLoop => "+LOOP",
+        Word::QDo => "?DO",
+        Word::Again => "AGAIN",
+        Word::Case => "CASE",
+        Word::Of => "OF",
+        Word::EndOf => "ENDOF",
+        Word::EndCase => "ENDCASE",
         Word::Leave => "LEAVE",
         Word::Exit => "EXIT",
         Word::Semicolon => ";",

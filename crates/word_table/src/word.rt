@@ -1,7 +1,7 @@
 // Words, their classes, and what the table says of each.
 
 /// A word of the source: the 124 words of the Core word set of ANS Forth (X3.215-1994, section 6.1) that a source text may
-/// use, and the comment word `\`. `DropTop` is `DROP`, `AbortRun` is `ABORT`, and `Index` and `OuterIndex` are `I` and `J`.
+/// use, the comment word `\`, and the structures `?DO`, `AGAIN` and `CASE` of the Core extension (section 6.2). `DropTop` is `DROP`, `AbortRun` is `ABORT`, and `Index` and `OuterIndex` are `I` and `J`.
 #[derive(Clone, Copy, Debug, PartialEq, Eq)]
 pub enum Word {
     // The data stack (ANS Forth, section 6.1: `DUP DROP SWAP OVER ROT 2DUP 2DROP`).
@@ -125,6 +125,13 @@ pub enum Word {
     Do,
     Loop,
     PlusLoop,
+    // `?DO`, `AGAIN`, and `CASE` with its `OF`, `ENDOF` and `ENDCASE` (section 6.2).
+    QDo,
+    Again,
+    Case,
+    Of,
+    EndOf,
+    EndCase,
     Leave,
     Exit,
     Semicolon,

@@ -71,6 +71,12 @@ const TABLE: &str = r#"
 | `DO` | structure | limit first -- | 2 | -2 | 1 | 0 | 8 | 8 | | begins a loop from the first index toward the limit |
 | `LOOP` | structure | -- | 0 | 0 | 2 | 0 | 12 | 12 | | adds 1 to the index and goes on unless it then is the limit |
 | `+LOOP` | structure | n -- | 1 | -1 | 4 | 0 | 24 | 24 | | adds n to the index and goes on unless it crosses the line between limit - 1 and limit |
+| `?DO` | structure | limit start -- | 2 | -2 | 2 | 0 | 12 | 15 | | begins a loop where the two differ, else goes on behind it |
+| `AGAIN` | structure | -- | 0 | 0 | 0 | 0 | 1 | 1 | | goes back to `BEGIN` |
+| `CASE` | structure | -- | 0 | 0 | 0 | 0 | 0 | 0 | | begins a case |
+| `OF` | structure | x y -- | 2 | 0 | 1 | 0 | 4 | 4 | | takes y, and x too where they are equal: then the body of the arm follows, else what stands behind its `ENDOF` |
+| `ENDOF` | structure | -- | 0 | 0 | 0 | 0 | 1 | 1 | | ends the body of an arm, and goes on behind `ENDCASE` |
+| `ENDCASE` | structure | x -- | 1 | -1 | 0 | 0 | 1 | 1 | | ends a case |
 | `LEAVE` | structure | -- | 0 | 0 | 1 | 0 | 5 | 5 | | leaves the innermost `DO` at once |
 | `EXIT` | structure | -- | 0 | 0 | 0 | 0 | 1 | 1 | | returns from the definition |
 | `RECURSE` | structure | -- | 0 | 0 | 0 | 0 | 1 | 1 | | calls the definition that it stands in |
@@ -243,7 +249,7 @@ fn agrees_with_the_tables(rt: HostRuntime) -> Result<(), Fail> {
         assert!(rt; !words.as_slice().contains(&word), "{line}");
         words.push(word)?;
     }
-    assert_eq!(rt; words.len(), 125);
+    assert_eq!(rt; words.len(), 131);
     Ok(())
 }
 

@@ -1,0 +1,5 @@
+use Rattle.control_flow.proofs.SourceFacts.{programs_are_sources}
+use Rattle.control_flow.proofs.laws.programs_are_sources.Goals as goal
+
+pub returns : goal.returns
+returns c = programs_are_sources

@@ -1,0 +1,4 @@
+pub mod Last
+pub mod Walks
+pub mod PairLists
+pub mod Links

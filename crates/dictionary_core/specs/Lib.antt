@@ -1,0 +1,4 @@
+pub mod Buckets
+pub mod Pairs
+pub mod Chains
+pub mod Lends
