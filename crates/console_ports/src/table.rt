@@ -5,6 +5,7 @@ ghost use Rattle.console_ports.specs.Ports.{access_at};
 use crate::ports::{Access, Fence};
 
 /// What a fetch or a store at a byte address reaches. Bit 0 of the address is ignored.
+#[inline(always)]
 pub fn access(addr: u16, fence: Fence, is_store: bool) -> Access
     ensures { result ≡ access_at fence.data_start is_store addr }
 {

@@ -1,5 +1,6 @@
 -- A step whose byte is known.
-use Rattle.std.proofs.Common.{◌≡◌, ℕ, List, Option, Some, None, sym, ap, ◌∙◌}
+use Rattle.std.proofs.Common.{◌≡◌, ℕ, Bool, true, false, List, Option, Some, None, refl, sym, ap, ◌∙◌}
+use Rattle.j1_simulator.specs.declared.effects.Output.TheVariants.{Silent}
 use Rattle.j1_simulator.specs.declared.effects.Effect.{Effect}
 use Rattle.j1_simulator.specs.declared.effects.Output.{Output}
 use Rattle.j1_simulator.specs.Step.{Core, Missing, Reach, Reaches, Asks, Stops, Goes, Takes, Ends, if_known, next_pc, moved_on, goes_on, accesses, applied, effect_at, depth_of, new_top_of, data_after, return_after, step}
@@ -34,3 +35,9 @@ step_done key data_start e core now before n r cell depth memory after output pc
     let goes : WentOn (record { pc = pc; t = t; data_stack = d; return_stack = b; memory = after }) output ≡ WentOn (moved_on round_storage e core pc cell memory) output = cc in
     let last : with_key key (applied round_storage data_start e core) ≡ with_key key (step round_storage data_start now) = ap (λ x. with_key key (applied round_storage data_start x core)) f ∙ ap (λ c. with_key key (applied round_storage data_start (effect_at now) c)) same in
     goes ∙ sym w ∙ last
+
+-- an instruction that makes no access reaches nothing
+pub quiet : (key : Option ℕ) (data_start : ℕ) (f s : Bool) (memory : List ℕ) (t n : ℕ) → f ≡ false → s ≡ false → Reaches t memory Silent ≡ reached_with key memory (accesses round_storage data_start f s memory t n)
+quiet key data_start false false memory t n ef es = refl
+quiet key data_start true s memory t n ef es = cc
+quiet key data_start false true memory t n ef es = cc

@@ -43,6 +43,7 @@ impl Depths {
     }
 
     /// Counts the moves of an instruction.
+    #[inline(always)]
     pub fn count(&mut self, effect: Effect)
         ensures { self.new ≡ counted self.old effect }
     {

@@ -1,8 +1,10 @@
 // The round machine without its console.
-ghost use Rattle.std.specs.Prelude.{◌≡◌, ◌≤ℤ◌, pos, negsuc, length, OnErr};
+ghost use Rattle.std.specs.Prelude.{◌≡◌, ◌≤ℤ◌, pos, negsuc, length, slice_index, OnErr, false, ℕ, Option};
+ghost use Rattle.j1_simulator.specs.declared.effects.Output.TheVariants.{Silent};
+ghost use Rattle.j1_table.specs.Instruction.{decoded};
 ghost use Rattle.j1_simulator.specs.Step.{step as step_of, effect_at, data_after, return_after};
 ghost use Rattle.j1_simulator.specs.RoundMachine.{round_storage, empty_ring};
-ghost use Rattle.j1_simulator.specs.MachineState.{seen_of, with_key};
+ghost use Rattle.j1_simulator.specs.MachineState.{WentOn, seen_of, with_key};
 
 use crate::effects::{Effect, Output, Pause, ReturnWrite};
 use crate::operate::{new_top, next_pc_of};
@@ -10,7 +12,7 @@ use crate::plans::plan;
 use crate::reach::reach;
 use crate::rings::Ring;
 use console_ports::Fence;
-use j1_table::decode;
+use j1_table::{Instr, decode};
 use std::marker::Model;
 
 /// Registers, stacks and memory.
@@ -36,6 +38,7 @@ impl Model for Cpu {
 }
 
 // Moves the data stack, and writes the old T there.
+#[inline(always)]
 fn change_data(stack: &mut Ring, effect: Effect, t: u16)
     requires low { negsuc 1 ≤ℤ effect.data_move }
     requires high { effect.data_move ≤ℤ pos 1 }
@@ -48,6 +51,7 @@ fn change_data(stack: &mut Ring, effect: Effect, t: u16)
 }
 
 // Moves the return stack, and writes what goes there.
+#[inline(always)]
 fn change_return(stack: &mut Ring, effect: Effect, t: u16)
     requires low { negsuc 1 ≤ℤ effect.return_move }
     requires high { effect.return_move ≤ℤ pos 1 }
@@ -76,23 +80,60 @@ impl Cpu {
         }
     }
 
-    /// What the next instruction does.
-    pub fn next_effect(&self) -> Effect
+    /// The next instruction.
+    #[inline(always)]
+    pub fn next_instr(&self) -> Instr
+        ensures { result ≡ decoded (slice_index self.now.memory self.now.pc) }
+    {
+        decode(self.memory[usize::from(self.pc)])
+    }
+
+    /// What the next instruction does, which is this one.
+    #[inline(always)]
+    pub fn effect_of(&self, instr: Instr) -> Effect
+        requires { instr ≡ decoded (slice_index self.now.memory self.now.pc) }
         ensures effect { result ≡ effect_at self.now }
         ensures data_low { negsuc 1 ≤ℤ result.data_move }
         ensures data_high { result.data_move ≤ℤ pos 1 }
         ensures return_low { negsuc 1 ≤ℤ result.return_move }
         ensures return_high { result.return_move ≤ℤ pos 1 }
     {
-        plan(self.pc, decode(self.memory[usize::from(self.pc)]))
+        plan(self.pc, instr)
     }
 
-    /// One instruction, where the next byte of the input is `key`.
-    pub fn step(&mut self, fence: Fence, key: Option<u8>) -> Result<Output, Pause>
+    /// One instruction, of this effect, which makes no access.
+    #[inline(always)]
+    pub fn pass(&mut self, effect: Effect)
+        requires effect { effect ≡ effect_at self.old }
+        requires fetches { effect.fetches ≡ false }
+        requires stores { effect.stores ≡ false }
+        requires data_low { negsuc 1 ≤ℤ effect.data_move }
+        requires data_high { effect.data_move ≤ℤ pos 1 }
+        requires return_low { negsuc 1 ≤ℤ effect.return_move }
+        requires return_high { effect.return_move ≤ℤ pos 1 }
+        ensures { (key : Option ℕ) (data_start : ℕ) → WentOn self.new Silent ≡ with_key key (step_of round_storage data_start self.old) }
+    {
+        let n = self.data_stack.top();
+        let r = self.return_stack.top();
+        let depth = u16::from(self.return_stack.at()) * 256 + u16::from(self.data_stack.at());
+        let t = self.t;
+        self.pc = next_pc_of(effect.next, self.pc, t, r);
+        self.t = new_top(effect.new_top, t, n, r, t, depth);
+        change_data(&mut self.data_stack, effect, t);
+        change_return(&mut self.return_stack, effect, t);
+    }
+
+    /// One instruction, of this effect, where the next byte of the input is `key`.
+    #[inline(always)]
+    pub fn step(&mut self, effect: Effect, fence: Fence, key: Option<u8>) -> Result<Output, Pause>
+        requires effect { effect ≡ effect_at self.old }
+        requires data_low { negsuc 1 ≤ℤ effect.data_move }
+        requires data_high { effect.data_move ≤ℤ pos 1 }
+        requires return_low { negsuc 1 ≤ℤ effect.return_move }
+        requires return_high { effect.return_move ≤ℤ pos 1 }
         ensures step { seen_of result self.new ≡ with_key key (step_of round_storage fence.data_start self.old) }
         ensures err { OnErr result (self.new ≡ self.old) }
     {
-        let effect = self.next_effect();
         let n = self.data_stack.top();
         let r = self.return_stack.top();
         let depth = u16::from(self.return_stack.at()) * 256 + u16::from(self.data_stack.at());

@@ -27,6 +27,7 @@ fn ask<C: Source>(console: &mut C) -> Result<Option<u8>, DriveError>
 }
 
 // Notes what an event prints, and gives its end.
+#[inline(always)]
 fn note<O: Sink>(event: Event, buffer: &mut Buffer, out: &mut O) -> Result<Option<End>, DriveError>
     requires room { length buffer.old < 512 }
     requires answered { event ≡ Event.WantsByte → ⊥ }
@@ -55,6 +56,7 @@ fn note<O: Sink>(event: Event, buffer: &mut Buffer, out: &mut O) -> Result<Optio
 }
 
 // One instruction, with the question for its byte.
+#[inline(always)]
 fn turn<C: Source, O: Sink>(
     machine: &mut Machine,
     buffer: &mut Buffer,
@@ -84,7 +86,7 @@ fn turn<C: Source, O: Sink>(
             buffer.flush(out)?;
             let byte = ask(console)?;
             machine.give_byte(byte);
-            note(machine.step(), buffer, out)
+            note(machine.step_apart(), buffer, out)
         }
         event => note(event, buffer, out),
     }

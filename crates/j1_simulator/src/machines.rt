@@ -1,5 +1,7 @@
 // Machines that are given their input byte by byte.
-ghost use Rattle.std.specs.Prelude.{◌≡◌, IfOk};
+ghost use Rattle.std.specs.Prelude.{◌≡◌, IfOk, None, false, slice_index};
+ghost use Rattle.j1_table.specs.Instruction.{decoded};
+ghost use Rattle.j1_simulator.specs.Effect.{effect};
 ghost use Rattle.j1_simulator.specs.MachineState.{key_of, EndsBy, event_of, end_of, started, Steps, WantsAByte, GivenIsDue};
 
 use crate::counters::Depths;
@@ -8,7 +10,7 @@ use crate::effects::{Output, Pause};
 use crate::ends::{End, Event};
 use crate::memory::memory_cells;
 use console_ports::Fence;
-use j1_table::Image;
+use j1_table::{Image, Instr};
 use std::alloc::{AllocError, Global};
 use std::marker::Model;
 
@@ -91,23 +93,15 @@ impl Machine {
         Event::Ended(end)
     }
 
-    /// Makes one instruction, unless the run has ended or the instruction takes a byte and none was given.
-    ///
-    /// T, N and R are read first. Then comes the fetch, then the store, then both pointers move, and what goes into the
-    /// stacks is written at the new pointers. An access outside data space and the ports ends the run and changes nothing
-    /// else. `WantsByte` comes exactly where the next instruction takes a byte and none was given; the machine is then
-    /// unchanged. From the step that ends the run on, each step answers that same end and changes nothing.
-    ///
-    /// A byte that was given is always for the next instruction (`due`).
-    pub fn step(&mut self) -> Event
-        ensures step { Steps self.old.ended result self.old self.new }
-        ensures due { GivenIsDue self.old }
+    // Makes the next instruction, which is this one, of a run that has not ended.
+    #[inline(always)]
+    fn make(&mut self, instr: Instr) -> Event
+        requires running { self.old.ended ≡ None }
+        requires instr { instr ≡ decoded (slice_index self.old.core.memory self.old.core.pc) }
+        ensures { Steps self.old.ended result self.old self.new }
     {
-        if let Some(end) = self.ended {
-            return Event::Ended(end);
-        }
-        let effect = self.cpu.next_effect();
-        match self.cpu.step(self.fence, key_in(self.given)) {
+        let effect = self.cpu.effect_of(instr);
+        match self.cpu.step(effect, self.fence, key_in(self.given)) {
             Err(Pause::Wants) => match self.given {
                 None => Event::WantsByte,
                 Some(_) => self.end_by(End::InputEnded),
@@ -120,6 +114,68 @@ impl Machine {
                 answer(output)
             }
         }
+    }
+
+    // Makes the next instruction, which is this one and makes no access.
+    #[inline(always)]
+    fn pass(&mut self, instr: Instr) -> Event
+        requires running { self.old.ended ≡ None }
+        requires instr { instr ≡ decoded (slice_index self.old.core.memory self.old.core.pc) }
+        requires fetches { (effect self.old.core.pc instr).fetches ≡ false }
+        requires stores { (effect self.old.core.pc instr).stores ≡ false }
+        ensures { Steps self.old.ended result self.old self.new }
+    {
+        let effect = self.cpu.effect_of(instr);
+        self.cpu.pass(effect);
+        self.given = None;
+        self.depths.count(effect);
+        Event::Went
+    }
+
+    /// Makes one instruction, unless the run has ended or the instruction takes a byte and none was given.
+    ///
+    /// T, N and R are read first. Then comes the fetch, then the store, then both pointers move, and what goes into the
+    /// stacks is written at the new pointers. An access outside data space and the ports ends the run and changes nothing
+    /// else. `WantsByte` comes exactly where the next instruction takes a byte and none was given; the machine is then
+    /// unchanged. From the step that ends the run on, each step answers that same end and changes nothing.
+    ///
+    /// A byte that was given is always for the next instruction (`due`).
+    #[inline(always)]
+    pub fn step(&mut self) -> Event
+        ensures step { Steps self.old.ended result self.old self.new }
+        ensures due { GivenIsDue self.old }
+    {
+        if let Some(end) = self.ended {
+            return Event::Ended(end);
+        }
+        // an arm for each kind, so that each is compiled for its effect alone
+        match self.cpu.next_instr() {
+            Instr::Literal(value) => self.pass(Instr::Literal(value)),
+            Instr::Jump(target) => self.pass(Instr::Jump(target)),
+            Instr::Branch(target) => self.pass(Instr::Branch(target)),
+            Instr::Call(target) => self.pass(Instr::Call(target)),
+            Instr::Alu(word) => {
+                if word.op() == 12 || word.stores() {
+                    self.make(Instr::Alu(word))
+                } else {
+                    self.pass(Instr::Alu(word))
+                }
+            }
+        }
+    }
+
+    /// A step, kept apart from the code of the loop that makes most steps.
+    #[cold]
+    #[inline(never)]
+    pub(crate) fn step_apart(&mut self) -> Event
+        ensures step { Steps self.old.ended result self.old self.new }
+        ensures due { GivenIsDue self.old }
+    {
+        if let Some(end) = self.ended {
+            return Event::Ended(end);
+        }
+        let instr = self.cpu.next_instr();
+        self.make(instr)
     }
 
     /// The end, once the run has one.

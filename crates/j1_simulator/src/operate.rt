@@ -9,12 +9,14 @@ use crate::effects::{NewTop, Next};
 use crate::plans::next_place;
 use cell_math::{add, signed};
 
+#[inline(always)]
 fn flag_of(holds: bool) -> u16
     ensures { result ≡ flag holds }
 {
     if holds { 0xffff } else { 0 }
 }
 
+#[inline(always)]
 fn binary(op: u8, t: u16, n: u16) -> u16
     ensures { result ≡ on_t_and_n op t n }
 {
@@ -31,6 +33,7 @@ fn binary(op: u8, t: u16, n: u16) -> u16
     }
 }
 
+#[inline(always)]
 fn operate(op: u8, t: u16, n: u16, r: u16, cell: u16, depth: u16) -> u16
     ensures { result ≡ operated round_storage op t n r cell depth }
 {
@@ -47,6 +50,7 @@ fn operate(op: u8, t: u16, n: u16, r: u16, cell: u16, depth: u16) -> u16
 }
 
 /// The new T.
+#[inline(always)]
 pub fn new_top(from: NewTop, t: u16, n: u16, r: u16, cell: u16, depth: u16) -> u16
     ensures { result ≡ new_top_of round_storage from t n r cell depth }
 {
@@ -57,6 +61,7 @@ pub fn new_top(from: NewTop, t: u16, n: u16, r: u16, cell: u16, depth: u16) -> u
 }
 
 /// The next place.
+#[inline(always)]
 pub fn next_pc_of(next: Next, pc: u16, t: u16, r: u16) -> u16
     requires { pc < 0x2000 }
     ensures { next_pc round_storage next pc t r ≡ Some result }

@@ -6,6 +6,7 @@ use crate::effects::{Effect, NewTop, Next, ReturnWrite};
 use j1_table::Instr;
 
 /// The cell of memory after a cell.
+#[inline(always)]
 pub fn next_place(pc: u16) -> u16
     requires { pc < 0x2000 }
     ensures { result ≡ following pc }
@@ -14,6 +15,7 @@ pub fn next_place(pc: u16) -> u16
 }
 
 /// The effect of the instruction at a cell of memory.
+#[inline(always)]
 pub fn plan(pc: u16, instr: Instr) -> Effect
     requires { pc < 0x2000 }
     ensures { result ≡ effect pc instr }

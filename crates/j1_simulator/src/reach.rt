@@ -9,6 +9,7 @@ use crate::ends::End;
 use console_ports::{Access, Fence, access};
 
 // A fetch.
+#[inline(always)]
 fn fetch(
     memory: &[u16],
     fence: Fence,
@@ -30,6 +31,7 @@ fn fetch(
 }
 
 // A store.
+#[inline(always)]
 fn store(memory: &mut [u16], fence: Fence, address: u16, value: u16) -> Result<(u16, Output), Pause>
     requires { length memory.old ≡ 0x2000 }
     ensures reach { reach_of result memory.new ≡ accesses round_storage fence.data_start false true memory.old address value }
@@ -48,6 +50,7 @@ fn store(memory: &mut [u16], fence: Fence, address: u16, value: u16) -> Result<(
 }
 
 // A fetch and a store at one address.
+#[inline(always)]
 fn exchange(
     memory: &mut [u16],
     fence: Fence,
@@ -71,6 +74,7 @@ fn exchange(
 }
 
 /// The accesses of an instruction, where T and N are these and the next byte of the input is `key`.
+#[inline(always)]
 pub fn reach(
     memory: &mut Vec<u16>,
     fence: Fence,

@@ -32,6 +32,7 @@ impl Ring {
         }
     }
 
+    #[inline(always)]
     pub fn at(&self) -> u8
         ensures value { result ≡ self.now.at }
         ensures bound { result < 32 }
@@ -39,12 +40,14 @@ impl Ring {
         self.at
     }
 
+    #[inline(always)]
     pub fn top(&self) -> u16
         ensures { result ≡ ring_top self.now }
     {
         self.cells[usize::from(self.at)]
     }
 
+    #[inline(always)]
     pub fn move_by(&mut self, places: i8)
         requires low { negsuc 1 ≤ℤ places }
         requires high { places ≤ℤ pos 1 }
@@ -53,6 +56,7 @@ impl Ring {
         self.at = (self.at as i8 + places).rem_euclid(32) as u8;
     }
 
+    #[inline(always)]
     pub fn put(&mut self, cell: u16)
         ensures { self.new ≡ ring_put cell self.old }
     {

@@ -5,6 +5,7 @@ ghost use Rattle.j1_table.specs.Instruction.{decoded, encoded, moves_of, IsInstr
 use crate::{AluWord, Bits13, Bits15, Instr};
 
 // The low 13 bits of a cell.
+#[inline(always)]
 fn low_bits(cell: u16) -> Bits13
     ensures { result ≡ cell % 0x2000 }
 {
@@ -15,6 +16,7 @@ fn low_bits(cell: u16) -> Bits13
 }
 
 /// The instruction that a cell stands for. Each of the 65536 cells stands for one.
+#[inline(always)]
 pub fn decode(cell: u16) -> Instr
     ensures instr { result ≡ decoded cell }
     ensures back { encoded result ≡ cell }

@@ -42,24 +42,24 @@ pub returns-in_ok-byte-in-WantsByte-clause-run : goal.returns-in_ok-byte-in-Want
 returns-in_ok-byte-in-WantsByte-clause-run g c =
     let w = wants _ c.args.machine.now c.step.new.self c.step.ensures.step c.in-WantsByte.is in record {
       taken = Some c.in_ok-byte-in-WantsByte.byte;
-      takes = asked_taken c.args.machine.now c.step.new.self c.give_byte.new.self c.step-in-WantsByte.new.self _ _ _ _ w.0 w.1 c.give_byte.ensures c.step-in-WantsByte.ensures.step c.in_ok-byte-in-WantsByte.ensures.byte;
+      takes = asked_taken c.args.machine.now c.step.new.self c.give_byte.new.self c.step_apart.new.self _ _ _ _ w.0 w.1 c.give_byte.ensures c.step_apart.ensures.step c.in_ok-byte-in-WantsByte.ensures.byte;
       ends = λ configuration fits data_start before left after l a.
           let f = flushed configuration fits c.args.machine.now c.step.new.self data_start left before _ _ _ a w.1 c.in_ok-flush-in-WantsByte.ensures.bytes in
-          let t = key_turned configuration fits c.step.new.self c.give_byte.new.self c.step-in-WantsByte.new.self data_start _ left after before _ _ _ f (subst WantsAByte (sym w.1) w.0) c.give_byte.ensures l c.step-in-WantsByte.ensures.step in
-          let h : Holds before (g.O.Sink.held c.flush.new.out) (c.flush.new.self ++ told c.step-in-WantsByte.result) (advance data_start configuration).printed = subst (λ b. Holds before (g.O.Sink.held c.flush.new.out) (b ++ told c.step-in-WantsByte.result) (advance data_start configuration).printed) (sym c.in_ok-flush-in-WantsByte.ensures.empty) t.at.out in
-          noted c.note.result configuration fits c.step-in-WantsByte.new.self data_start after before _ _ _ _ _ t c.note.ensures.err (c.note.ensures.ok before (advance data_start configuration).printed h) (c.note.ensures.front before (advance data_start configuration).printed h);
+          let t = key_turned configuration fits c.step.new.self c.give_byte.new.self c.step_apart.new.self data_start _ left after before _ _ _ f (subst WantsAByte (sym w.1) w.0) c.give_byte.ensures l c.step_apart.ensures.step in
+          let h : Holds before (g.O.Sink.held c.flush.new.out) (c.flush.new.self ++ told c.step_apart.result) (advance data_start configuration).printed = subst (λ b. Holds before (g.O.Sink.held c.flush.new.out) (b ++ told c.step_apart.result) (advance data_start configuration).printed) (sym c.in_ok-flush-in-WantsByte.ensures.empty) t.at.out in
+          noted c.note.result configuration fits c.step_apart.new.self data_start after before _ _ _ _ _ t c.note.ensures.err (c.note.ensures.ok before (advance data_start configuration).printed h) (c.note.ensures.front before (advance data_start configuration).printed h);
     }
 
 pub returns-in_ok-byte-in-WantsByte-clause-given : goal.returns-in_ok-byte-in-WantsByte-clause-given
 returns-in_ok-byte-in-WantsByte-clause-given g c =
-    used _ c.give_byte.new.self c.step-in-WantsByte.new.self c.step-in-WantsByte.ensures.due c.step-in-WantsByte.ensures.step (has_its_byte c.step.new.self c.give_byte.new.self c.step-in-WantsByte.new.self _ _ c.give_byte.ensures c.step-in-WantsByte.ensures.step)
+    used _ c.give_byte.new.self c.step_apart.new.self c.step_apart.ensures.due c.step_apart.ensures.step (has_its_byte c.step.new.self c.give_byte.new.self c.step_apart.new.self _ _ c.give_byte.ensures c.step_apart.ensures.step)
 
 pub returns-in_ok-byte-in-WantsByte-clause-quiet : goal.returns-in_ok-byte-in-WantsByte-clause-quiet
 returns-in_ok-byte-in-WantsByte-clause-quiet g c = λ apart. absurd (apart (wants _ c.args.machine.now c.step.new.self c.step.ensures.step c.in-WantsByte.is).0)
 
 pub returns-in_ok-byte-in-WantsByte-clause-ended : goal.returns-in_ok-byte-in-WantsByte-clause-ended
 returns-in_ok-byte-in-WantsByte-clause-ended g c =
-    subst (λ x. IfOk c.note.result (λ end. end ≡ x)) (sym (ended_is _ c.give_byte.new.self c.step-in-WantsByte.new.self c.step-in-WantsByte.ensures.step (has_its_byte c.step.new.self c.give_byte.new.self c.step-in-WantsByte.new.self _ _ c.give_byte.ensures c.step-in-WantsByte.ensures.step))) c.note.ensures.end
+    subst (λ x. IfOk c.note.result (λ end. end ≡ x)) (sym (ended_is _ c.give_byte.new.self c.step_apart.new.self c.step_apart.ensures.step (has_its_byte c.step.new.self c.give_byte.new.self c.step_apart.new.self _ _ c.give_byte.ensures c.step_apart.ensures.step))) c.note.ensures.end
 
 pub returns-in_default : goal.returns-in_default
 returns-in_default g c =
@@ -86,7 +86,7 @@ returns-in_default g c =
     }
 
 pub note-requires-clause-answered : goal.note-requires-clause-answered
-note-requires-clause-answered g c = has_its_byte c.step.new.self c.give_byte.new.self c.step-in-WantsByte.new.self _ _ c.give_byte.ensures c.step-in-WantsByte.ensures.step
+note-requires-clause-answered g c = has_its_byte c.step.new.self c.give_byte.new.self c.step_apart.new.self _ _ c.give_byte.ensures c.step_apart.ensures.step
 
 pub returns-in_err-flush-in-WantsByte-clause-over : goal.returns-in_err-flush-in-WantsByte-clause-over
 returns-in_err-flush-in-WantsByte-clause-over g c = wanting_keeps_end c.args.machine.now _ (wants _ c.args.machine.now c.step.new.self c.step.ensures.step c.in-WantsByte.is).0
