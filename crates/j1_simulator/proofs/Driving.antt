@@ -14,7 +14,7 @@ use Rattle.j1_simulator.specs.Step.{By}
 use Rattle.j1_simulator.specs.RoundMachine.{RingCells, round_storage}
 use Rattle.j1_simulator.specs.MachineState.{MachineState, WantsAByte}
 use Rattle.j1_simulator.specs.Run.{Configuration, advance}
-use Rattle.j1_simulator.specs.Drive.{Holds, HoldsFront, StandsAt, IsAt, driven, driven_fits, going_on, counters_fit, input_for, given_after, left_of, IsDriven, MadeAtMost, KeepsEnd}
+use Rattle.j1_simulator.specs.Drive.{Holds, HoldsFront, StandsAt, IsAt, driven, StandsWritten, driven_fits, going_on, counters_fit, input_for, given_after, left_of, IsDriven, IsBrokenOff, MadeAtMost, KeepsEnd}
 use Rattle.j1_simulator.specs.Turn.{LeftAfter, ComesFrom, IsTaken, TurnEnds, Turns}
 use Rattle.j1_simulator.proofs.Holding.{holds_flushed, holds_front}
 use Rattle.j1_simulator.proofs.Running.{run_suc, front_later, fits_before}
@@ -85,7 +85,7 @@ none_asked (Some byte) old k hand g b w h n =
 -- an instruction of a turn
 abbrev pub Runs : Result (Option End) DriveError → MachineState → MachineState → Option (Option ℕ) → Option (List ℕ) → Option (List ℕ) → Option (List ℕ) → List ℕ → List ℕ → Type 0
 Runs result old new taken before now later buffer waiting =
-    (configuration : Configuration ℕ RingCells) (fits : Bool) (data_start : ℕ) (left after : Option (List ℕ)) → LeftAfter taken left after → IsAt configuration fits old data_start left before now buffer → TurnEnds result configuration fits new data_start after before later waiting
+    (configuration : Configuration ℕ RingCells) (fits : Bool) (data_start : ℕ) (left after : Option (List ℕ)) → LeftAfter taken left after → IsAt configuration fits old data_start left before now buffer → TurnEnds result taken configuration fits new data_start after before later waiting
 
 turn_runs : {result : Result (Option End) DriveError} {old new : MachineState} {left after now later : Option (List ℕ)} {buffer waiting : List ℕ} (t : Turns result old new left after now later buffer waiting) (before : Option (List ℕ)) → Runs result old new t.taken before now later buffer waiting
 turn_runs t before = λ configuration fits data_start input rest. t.ends configuration fits data_start before input rest
@@ -193,11 +193,11 @@ ended_here {first} {machine} {told} {left} {before} {now} {buffer} later k n end
     told_map told (λ bytes. IsDriven first (k + 1) bytes machine left before later []) (λ bytes. IsDriven first n bytes machine left before later [])
     (λ bytes a. ended_on first k n machine end bytes left before later [] (omega arith) e (subst (λ k. IsDriven first k bytes machine left before later []) (add-one k) a)) (flushed_here later u bytes)
 
--- what is in out after a failed flush
-pub front_here : {first machine : MachineState} {told : Option (List ℕ)} {k : ℕ} {left before now : Option (List ℕ)} {buffer : List ℕ} (later : Option (List ℕ)) (n : ℕ) → k ≤ n → Underway first told k machine left before now buffer → AppendsFront now later buffer → IfSome told (λ bytes. HoldsFront before later (driven first n (input_for first.given bytes)).printed)
+-- the moment after a failed flush
+pub front_here : {first machine : MachineState} {told : Option (List ℕ)} {k : ℕ} {left before now : Option (List ℕ)} {buffer : List ℕ} (later : Option (List ℕ)) (n : ℕ) → k ≤ n → Underway first told k machine left before now buffer → AppendsFront now later buffer → IfSome told (λ bytes. (j : ℕ) × (j ≤ n) × IsBrokenOff first j bytes machine left before later)
 front_here {first} {machine} {told} {k} {left} {before} {now} {buffer} later n le u bytes =
-    told_map told (λ bytes. IsDriven first k bytes machine left before now buffer) (λ bytes. HoldsFront before later (driven first n (input_for first.given bytes)).printed)
-    (λ input a. front_later first k n (input_for first.given input) before later le (holds_front before now later buffer _ a.out bytes)) u.here
+    told_map told (λ bytes. IsDriven first k bytes machine left before now buffer) (λ bytes. (j : ℕ) × (j ≤ n) × IsBrokenOff first j bytes machine left before later)
+    (λ input a. (k, le, record { stands = a.stands; left_is = a.left_is; front = holds_front before now later buffer _ a.out bytes })) u.here
 
 -- all that was printed is a beginning of it
 holds_all : (before now : Option (List ℕ)) (printed : List ℕ) → Holds before now [] printed → HoldsFront before now printed
@@ -230,8 +230,8 @@ made_before Read n result first k bytes old new taken after before now later buf
     record { made = k; within = omega arith; all = λ e. cc; fewer = λ e. omega arith; bytes = bytes; stands = a.stands; written = λ w. a.out; front = holds_all before later _ a.out }
 made_before Write n result first k bytes old new taken after before now later buffer waiting le failed b runs =
     ⊎_elim
-    (λ s. record { made = k; within = omega arith; all = λ e. cc; fewer = λ e. cc; bytes = bytes; stands = s.0; written = λ w. absurd (w failed); front = s.1 })
-    (λ s. record { made = suc k; within = le; all = λ e. cc; fewer = λ e. cc; bytes = bytes; stands = stands_next first k (input_for first.given bytes) new s.0; written = λ w. absurd (w failed); front = front_next first k (input_for first.given bytes) before later s.1 })
+    (λ s. record { made = k; within = omega arith; all = λ e. cc; fewer = λ e. cc; bytes = bytes; stands = s.1.stands; written = λ w. absurd (w failed); front = s.1.front })
+    (λ s. record { made = suc k; within = le; all = λ e. cc; fewer = λ e. cc; bytes = bytes; stands = stands_next first k (input_for first.given bytes) new s.stands; written = λ w. absurd (w failed); front = front_next first k (input_for first.given bytes) before later s.front })
     (runs (driven first k (input_for first.given bytes)) (driven_fits first k (input_for first.given bytes)) first.data_start _ _ b.1 b.2)
 
 -- at most n instructions where a turn failed
@@ -250,14 +250,31 @@ read_here {first} {old} {new} {told} {k} {left} {after} {before} {now} {later} {
     told_map told (λ bytes. IsDriven first k bytes old left before now buffer) (λ bytes. (j : ℕ) × (j < n) × IsDriven first j bytes new after before later [])
     (λ bytes a. (k, less, runs (driven first k (input_for first.given bytes)) (driven_fits first k (input_for first.given bytes)) first.data_start _ _ l a)) u.here
 
--- what is in out after a failed write
-pub write_here : {first old new : MachineState} {told : Option (List ℕ)} {k : ℕ} {left after before now later : Option (List ℕ)} {buffer waiting : List ℕ} (r : Result (Option End) DriveError) (n : ℕ) → k + 1 ≤ n → r ≡ Err Write → Underway first told k old left before now buffer → Turns r old new left after now later buffer waiting → IfSome told (λ bytes. HoldsFront before later (driven first n (input_for first.given bytes)).printed)
+-- a turn that took nothing was given nothing
+given_none : (given taken : Option (Option ℕ)) (left after : Option (List ℕ)) → ComesFrom given taken left after → taken ≡ None → given ≡ None
+given_none None taken left after f e = refl
+given_none (Some byte) taken left after f e = let s : taken ≡ Some byte = f.0 in cc
+
+-- the input left before an instruction that was not made
+left_unmade : (first old new : MachineState) (told : Option (List ℕ)) (k : ℕ) (left after before now : Option (List ℕ)) (buffer : List ℕ) (taken : Option (Option ℕ)) (input : List ℕ) → Underway first told k old left before now buffer → IsTaken old new taken left after → taken ≡ None → left_of first.given k left ≡ Some input → left_of first.given k after ≡ Some input
+left_unmade first old new told k left after before now buffer taken input u t none is =
+    let bare : old.given ≡ None = given_none old.given taken left after t.from none in
+    let from : LeftAfter taken left after = subst (λ g. ComesFrom g taken left after) bare t.from in
+    let l : LeftAfter taken (left_of first.given k left) (left_of first.given k after) = left_kept first.given k k taken left after (sym bare ∙ u.given) (omega arith) (λ h. none) from in
+    subst (λ x. LeftAfter None x (left_of first.given k after)) is (subst (λ x. LeftAfter x (left_of first.given k left) (left_of first.given k after)) none l)
+
+broken_next : (first : MachineState) (k : ℕ) (bytes : List ℕ) (new : MachineState) (left before now : Option (List ℕ)) → StandsWritten (advance first.data_start (driven first k (input_for first.given bytes))) (driven_fits first k (input_for first.given bytes) && counters_fit (advance first.data_start (driven first k (input_for first.given bytes)))) new first.data_start (left_of first.given (suc k) left) before now → IsBrokenOff first (suc k) bytes new left before now
+broken_next first k bytes new left before now s =
+    subst (λ x. StandsWritten x (driven_fits first k (input_for first.given bytes) && counters_fit x) new first.data_start (left_of first.given (suc k) left) before now) (sym (run_suc k first.data_start (going_on first (input_for first.given bytes)))) s
+
+-- the moment of a failed write
+pub write_here : {first old new : MachineState} {told : Option (List ℕ)} {k : ℕ} {left after before now later : Option (List ℕ)} {buffer waiting : List ℕ} (r : Result (Option End) DriveError) (n : ℕ) → k + 1 ≤ n → r ≡ Err Write → Underway first told k old left before now buffer → Turns r old new left after now later buffer waiting → IfSome told (λ bytes. (j : ℕ) × (j ≤ n) × IsBrokenOff first j bytes new after before later)
 write_here {first} {old} {new} {told} {k} {left} {after} {before} {now} {later} {buffer} {waiting} r n le failed u t =
     let runs : Runs (Err Write) old new t.taken before now later buffer waiting = subst (λ r. Runs r old new t.taken before now later buffer waiting) failed (turn_runs t before) in
-    told_map told (λ bytes. IsDriven first k bytes old left before now buffer) (λ bytes. HoldsFront before later (driven first n (input_for first.given bytes)).printed)
+    told_map told (λ bytes. IsDriven first k bytes old left before now buffer) (λ bytes. (j : ℕ) × (j ≤ n) × IsBrokenOff first j bytes new after before later)
     (λ bytes a. ⊎_elim
-    (λ s. front_later first k n (input_for first.given bytes) before later (omega arith) s.1)
-    (λ s. front_later first (suc k) n (input_for first.given bytes) before later (omega arith) (front_next first k (input_for first.given bytes) before later s.1))
+    (λ s. (k, omega arith, record { stands = s.1.stands; left_is = left_unmade first old new told k left after before now buffer t.taken _ u t.takes s.0 a.left_is; front = s.1.front }))
+    (λ s. (suc k, omega arith, broken_next first k bytes new after before later s))
     (runs (driven first k (input_for first.given bytes)) (driven_fits first k (input_for first.given bytes)) first.data_start _ _ (told_left t.taken first old new told k left after before now buffer u t.takes) a)) u.here
 
 -- a machine that was told by hand that there is no byte does not ask the console

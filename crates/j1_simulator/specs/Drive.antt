@@ -52,6 +52,12 @@ pub record IsAt (configuration : Configuration ℕ RingCells) (fits : Bool) (mac
   pub left_is : left ≡ Some configuration.input
   pub out : Holds before now buffer configuration.printed
 
+-- with its input, and with a beginning of what was printed in out
+pub record StandsWritten (configuration : Configuration ℕ RingCells) (fits : Bool) (machine : MachineState) (data_start : ℕ) (left before now : Option (List ℕ)) : Type 0 where
+  pub stands : StandsAt configuration fits machine data_start
+  pub left_is : left ≡ Some configuration.input
+  pub front : HoldsFront before now configuration.printed
+
 -- the moment from which a machine goes on with this input
 abbrev pub going_on : MachineState → List ℕ → Configuration ℕ RingCells
 going_on machine input =
@@ -103,6 +109,11 @@ left_of (Some None) n left = Some []
 abbrev pub IsDriven : MachineState → ℕ → List ℕ → MachineState → Option (List ℕ) → Option (List ℕ) → Option (List ℕ) → List ℕ → Type 0
 IsDriven old n bytes new left before now buffer =
     IsAt (driven old n (input_for old.given bytes)) (driven_fits old n (input_for old.given bytes)) new old.data_start (left_of old.given n left) before now buffer
+
+-- it has come there, and out has only a beginning of what they printed
+abbrev pub IsBrokenOff : MachineState → ℕ → List ℕ → MachineState → Option (List ℕ) → Option (List ℕ) → Option (List ℕ) → Type 0
+IsBrokenOff old n bytes new left before now =
+    StandsWritten (driven old n (input_for old.given bytes)) (driven_fits old n (input_for old.given bytes)) new old.data_start (left_of old.given n left) before now
 
 -- the machine has made at most n instructions of its run on some bytes of the console: all n where the answer is StepsUsed,
 -- fewer where a read failed;

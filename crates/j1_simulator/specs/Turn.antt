@@ -7,7 +7,7 @@ use Rattle.j1_simulator.specs.declared.ends.DriveError.TheVariants.{Read, Write}
 use Rattle.j1_simulator.specs.RoundMachine.{RingCells}
 use Rattle.j1_simulator.specs.MachineState.{MachineState, WantsAByte}
 use Rattle.j1_simulator.specs.Run.{Configuration, advance}
-use Rattle.j1_simulator.specs.Drive.{HoldsFront, StandsAt, IsAt, counters_fit}
+use Rattle.j1_simulator.specs.Drive.{StandsWritten, IsAt, counters_fit}
 
 -- what is left of an input that is told, after an instruction that takes no byte, or that takes this one (or is told that there is none)
 abbrev pub LeftAfter : Option (Option ℕ) → Option (List ℕ) → Option (List ℕ) → Type 0
@@ -25,19 +25,15 @@ pub record IsTaken (old new : MachineState) (taken : Option (Option ℕ)) (left 
   pub wanted : (byte : Option ℕ) → taken ≡ Some byte → WantsAByte (record old { given = None })
   pub none_left : taken ≡ Some None → new.ended ≡ Some InputEnded
 
--- the machine stands at this moment, and a beginning of what was printed is in out
-abbrev pub StandsWritten : Configuration ℕ RingCells → Bool → MachineState → ℕ → Option (List ℕ) → Option (List ℕ) → Type 0
-StandsWritten configuration fits machine data_start before now = StandsAt configuration fits machine data_start × HoldsFront before now configuration.printed
-
--- a turn from this moment has come to the next one, or broke off
-abbrev pub TurnEnds : Result (Option End) DriveError → Configuration ℕ RingCells → Bool → MachineState → ℕ → Option (List ℕ) → Option (List ℕ) → Option (List ℕ) → List ℕ → Type 0
-TurnEnds (Ok end) configuration fits new data_start left before now buffer =
+-- a turn from this moment, which took such a byte, has come to the next one, or broke off; before it did, it took none
+abbrev pub TurnEnds : Result (Option End) DriveError → Option (Option ℕ) → Configuration ℕ RingCells → Bool → MachineState → ℕ → Option (List ℕ) → Option (List ℕ) → Option (List ℕ) → List ℕ → Type 0
+TurnEnds (Ok end) taken configuration fits new data_start left before now buffer =
     IsAt (advance data_start configuration) (fits && counters_fit (advance data_start configuration)) new data_start left before now buffer
-TurnEnds (Err Read) configuration fits new data_start left before now buffer =
+TurnEnds (Err Read) taken configuration fits new data_start left before now buffer =
     IsAt configuration fits new data_start left before now []
-TurnEnds (Err Write) configuration fits new data_start left before now buffer =
-    StandsWritten configuration fits new data_start before now
-    ⊎ StandsWritten (advance data_start configuration) (fits && counters_fit (advance data_start configuration)) new data_start before now
+TurnEnds (Err Write) taken configuration fits new data_start left before now buffer =
+    ((taken ≡ None) × StandsWritten configuration fits new data_start left before now)
+    ⊎ StandsWritten (advance data_start configuration) (fits && counters_fit (advance data_start configuration)) new data_start left before now
 
 -- a turn takes at most one byte, and makes its instruction from whatever moment the machine stands at
 pub record Turns (result : Result (Option End) DriveError) (old new : MachineState) (left after now later : Option (List ℕ)) (buffer waiting : List ℕ) : Type 0 where
@@ -45,4 +41,4 @@ pub record Turns (result : Result (Option End) DriveError) (old new : MachineSta
   pub takes : IsTaken old new taken left after
   pub ends :
       (configuration : Configuration ℕ RingCells) (fits : Bool) (data_start : ℕ) (before input rest : Option (List ℕ)) → LeftAfter taken input rest →
-      IsAt configuration fits old data_start input before now buffer → TurnEnds result configuration fits new data_start rest before later waiting
+      IsAt configuration fits old data_start input before now buffer → TurnEnds result taken configuration fits new data_start rest before later waiting

@@ -4,7 +4,7 @@ ghost use Rattle.outside_io.specs.Causes.{Rose, HasCause};
 ghost use Rattle.j1_simulator.specs.Run.{Configuration};
 ghost use Rattle.j1_simulator.specs.RoundMachine.{RingCells};
 ghost use Rattle.j1_simulator.specs.MachineState.{WantsAByte};
-ghost use Rattle.j1_simulator.specs.Drive.{Holds, HoldsFront, IsAt, told, ended_by, driven, input_for, given_after, IsDriven, MadeAtMost, end_told, KeepsEnd};
+ghost use Rattle.j1_simulator.specs.Drive.{Holds, HoldsFront, IsAt, told, ended_by, given_after, IsDriven, IsBrokenOff, MadeAtMost, end_told, KeepsEnd};
 ghost use Rattle.j1_simulator.specs.Turn.{Turns};
 
 use crate::buffers::Buffer;
@@ -99,7 +99,8 @@ fn turn<C: Source, O: Sink>(
 /// now or before, the answer is its end at each `n`; `StepsUsed` comes exactly where it has not.
 ///
 /// An error comes only where the count of faults of `console` or of `out` rose. After `Read` the machine still wants its
-/// byte, and all that was printed has been written. After `Write`, `out` holds a beginning of what was printed.
+/// byte, and all that was printed has been written. After `Write` the machine and the console stand after
+/// some of the instructions, and `out` holds a beginning of what these printed.
 ///
 /// The input of the run is the byte given by hand, where there is one that is not yet used, and then the bytes of the console;
 /// where it was told by hand that there is none left, it is empty, and the console is left alone. The clauses `run`, `read`
@@ -130,7 +131,7 @@ pub fn drive<C: Source, O: Sink>(
     ensures read { IfSome (C.left console.old) (λ bytes. result ≡ Err DriveError.Read →
         (k : ℕ) × (k < n) × IsDriven machine.old k bytes machine.new (C.left console.new) (O.held out.old) (O.held out.new) []) }
     ensures write { IfSome (C.left console.old) (λ bytes. result ≡ Err DriveError.Write →
-        HoldsFront (O.held out.old) (O.held out.new) (driven machine.old n (input_for machine.old.given bytes)).printed) }
+        (k : ℕ) × (k ≤ n) × IsBrokenOff machine.old k bytes machine.new (C.left console.new) (O.held out.old) (O.held out.new)) }
 {
     let mut buffer = Buffer::new();
     for _made in 0..n {

@@ -1,5 +1,5 @@
 -- When the workbench gives which answer.
-use Rattle.std.specs.Prelude.{[], ◌≡◌, ◌⊎◌, ℕ, Bool, true, false, List, Option, Some, None, option_map, Result, Ok, Err, ⊤}
+use Rattle.std.specs.Prelude.{[], ◌≡◌, ◌≤◌, ◌⊎◌, ℕ, Bool, true, false, List, Option, Some, None, option_map, Result, Ok, Err, ⊤}
 use Rattle.std.specs.Io.KnownBytes.{Appends}
 use Rattle.outside_io.specs.Bytes.{AppendsFront}
 use Rattle.outside_io.specs.Causes.{Rose}
@@ -10,7 +10,9 @@ use Rattle.j1_simulator.specs.declared.ends.Finish.{Finish}
 use Rattle.j1_simulator.specs.declared.ends.Finish.TheVariants as finish
 use Rattle.j1_simulator.specs.declared.ends.DriveError.{DriveError}
 use Rattle.j1_simulator.specs.declared.ends.DriveError.TheVariants as drive
-use Rattle.j1_simulator.specs.Step.{By}
+use Rattle.j1_simulator.specs.Step.{By, step}
+use Rattle.j1_simulator.specs.RoundMachine.{round_storage}
+use Rattle.j1_simulator.specs.MachineState.{IsTaking}
 use Rattle.j1_simulator.specs.Run.{round_run}
 use Rattle.j1_simulator.specs.Drive.{HoldsFront}
 use Rattle.j1_workbench.specs.declared.status.Status.{Status}
@@ -101,10 +103,21 @@ IsFault ReadFault = ⊤
 IsFault WriteFault = ⊤
 IsFault status = ⊥
 
--- what a call leaves that was to run an image: all of the run, or after a fault a beginning of what it prints
+-- a run that broke off after so many instructions: the input left, and a beginning of what they printed; all of it where a byte
+-- could not be read
+pub record BrokeOff (image : Content) (input : List ℕ) (steps : ℕ) (status : Status) (left before now : Option (List ℕ)) : Type 0 where
+  pub made : ℕ
+  pub within : made ≤ steps
+  pub left_is : left ≡ Some (round_run image input made).input
+  pub front : HoldsFront before now (round_run image input made).printed
+  pub all : status ≡ ReadFault → Appends before now (round_run image input made).printed
+  -- a byte was due, or the file itself could not be read
+  pub due : status ≡ ReadFault → (made ≡ 0) ⊎ IsTaking (step round_storage image.data_start (round_run image input made).core)
+
+-- what a call leaves that was to run an image: all of the run, or after a fault some of it
 pub record RunLeaves (image : Content) (input : List ℕ) (steps : ℕ) (status : Status) (left before now : Option (List ℕ)) : Type 0 where
   pub ran : IsRunAnswer status → RanAs image input steps status left before now
-  pub broke_off : IsFault status → HoldsFront before now (round_run image input steps).printed
+  pub broke_off : IsFault status → BrokeOff image input steps status left before now
 
 -- the status of a drive
 abbrev pub status_after : Result Finish DriveError → Status
@@ -117,6 +130,11 @@ status_after (Err drive.Write) = WriteFault
 pub record IsUntouched (bytes_before bytes_now : Option (List ℕ)) (faults_before faults_now : ℕ) : Type 0 where
   pub bytes : bytes_now ≡ bytes_before
   pub faults : faults_now ≡ faults_before
+
+-- no file was asked for: the counts of failed reads and of absences
+pub record AsksNoFile (faults_before faults_now absences_before absences_now : ℕ) : Type 0 where
+  pub faults : faults_now ≡ faults_before
+  pub absences : absences_now ≡ absences_before
 
 -- an answer stands, unless the write of its note failed
 abbrev pub UnlessNoteFails : ℕ → ℕ → Status → Type 0 → Type 0

@@ -9,7 +9,7 @@ ghost use Rattle.j1_workbench.specs.declared.status.Status.{Status as Answer};
 ghost use Rattle.code_layout.specs.Built.{IsBuilt};
 ghost use Rattle.code_layout.specs.Layout.{laid_out};
 ghost use Rattle.code_layout.specs.Places.{library_of};
-ghost use Rattle.j1_workbench.specs.Answers.{AsksToRun, AsksForMore, HasNoProgram, HoldsTextOf, NeverRuns, text_in, IsTextAnswer, IsRefusal, RunLeaves, IsUntouched};
+ghost use Rattle.j1_workbench.specs.Answers.{AsksToRun, AsksForMore, HasNoProgram, HoldsTextOf, NeverRuns, text_in, IsTextAnswer, IsRefusal, RunLeaves, IsUntouched, AsksNoFile};
 
 use crate::running::run_image;
 use crate::source::{MOST_SOURCE, judge};
@@ -142,6 +142,10 @@ pub fn answer<F: Folder, C: Source, O: Sink>(
         RunLeaves (laid_out [] program) input (steps_allowed steps) result (C.left console.new) (O.held out.old) (O.held out.new)) }
     ensures bad_words { (result ≡ Status.BadWords) ↔ (request_of (map string_bytes words.now) ≡ None) }
     ensures not_built { AsksForMore (request_of (map string_bytes words.now)) → result ≡ Status.NotYet }
+    ensures no_words_no_file { request_of (map string_bytes words.now) ≡ None →
+        AsksNoFile (F.read_faults files.old) (F.read_faults files.new) (F.absences files.old) (F.absences files.new) }
+    ensures not_built_no_file { AsksForMore (request_of (map string_bytes words.now)) →
+        AsksNoFile (F.read_faults files.old) (F.read_faults files.new) (F.absences files.old) (F.absences files.new) }
     ensures missing { result ≡ Status.Missing → (source : List ℕ) × (steps : Option ℕ) × AsksToRun (request_of (map string_bytes words.now)) source steps
         × Rose (F.absences files.old) (F.absences files.new) × Lacks (F.files files.old) source }
     ensures lacking { (source : List ℕ) (steps : Option ℕ) → AsksToRun (request_of (map string_bytes words.now)) source steps → IsLacking (F.files files.old) source →

@@ -9,7 +9,7 @@ ghost use Rattle.j1_workbench.specs.Words.{request_of, steps_allowed};
 ghost use Rattle.j1_workbench.specs.Judgement.{judged, Compiles, IsAnswered};
 ghost use Rattle.j1_workbench.specs.declared.status.Status.{Status as Answer};
 ghost use Rattle.j1_workbench.specs.Notes.{note_of};
-ghost use Rattle.j1_workbench.specs.Answers.{AsksToRun, AsksForMore, HoldsTextOf, NeverRuns, text_in, IsTextAnswer, IsRefusal, IsUntouched, UnlessNoteFails, IsCompiled, TellsNote};
+ghost use Rattle.j1_workbench.specs.Answers.{AsksToRun, AsksForMore, HoldsTextOf, NeverRuns, text_in, IsTextAnswer, IsRefusal, IsUntouched, AsksNoFile, UnlessNoteFails, IsCompiled, TellsNote};
 
 use crate::answering::answer;
 use crate::laws::lines_agree;
@@ -40,6 +40,10 @@ pub fn workbench<F: Folder, C: Source, O: Sink, N: Sink>(
     ensures bad_words { request_of (map string_bytes words.now) ≡ None →
         UnlessNoteFails (N.faults notes.old) (N.faults notes.new) result (result ≡ Status.BadWords) }
     ensures bad_words_only { result ≡ Status.BadWords → request_of (map string_bytes words.now) ≡ None }
+    ensures no_words_no_file { request_of (map string_bytes words.now) ≡ None →
+        AsksNoFile (F.read_faults files.old) (F.read_faults files.new) (F.absences files.old) (F.absences files.new) }
+    ensures not_built_no_file { AsksForMore (request_of (map string_bytes words.now)) →
+        AsksNoFile (F.read_faults files.old) (F.read_faults files.new) (F.absences files.old) (F.absences files.new) }
     ensures missing { (source : List ℕ) (steps : Option ℕ) → AsksToRun (request_of (map string_bytes words.now)) source steps → IsLacking (F.files files.old) source →
         UnlessNoteFails (N.faults notes.old) (N.faults notes.new) result
         ((result ≡ Status.Missing) ⊎ ((result ≡ Status.ReadFault) × Rose (F.read_faults files.old) (F.read_faults files.new)) ⊎ (result ≡ Status.OutOfMemory)) }

@@ -15,7 +15,7 @@ returns-in_err-flush-in-WantsByte-clause-run g c =
       takes = none_taken c.args.machine.now c.step.new.self _ _ w.0.not_given (stays _);
       ends = λ configuration fits data_start before left after l a.
           let e : c.from_residual.result ≡ Err Write = search rules in
-          not_flushed c.from_residual.result configuration fits c.args.machine.now c.step.new.self data_start left after before _ _ _ _ e a w.1 c.in_err-flush-in-WantsByte.ensures.bytes;
+          not_flushed c.from_residual.result configuration fits c.args.machine.now c.step.new.self data_start left after before _ _ _ _ e l a w.1 c.in_err-flush-in-WantsByte.ensures.bytes;
     }
 
 pub returns-in_err-byte-in-WantsByte-clause-run : goal.returns-in_err-byte-in-WantsByte-clause-run
@@ -47,7 +47,7 @@ returns-in_ok-byte-in-WantsByte-clause-run g c =
           let f = flushed configuration fits c.args.machine.now c.step.new.self data_start left before _ _ _ a w.1 c.in_ok-flush-in-WantsByte.ensures.bytes in
           let t = key_turned configuration fits c.step.new.self c.give_byte.new.self c.step_apart.new.self data_start _ left after before _ _ _ f (subst WantsAByte (sym w.1) w.0) c.give_byte.ensures l c.step_apart.ensures.step in
           let h : Holds before (g.O.Sink.held c.flush.new.out) (c.flush.new.self ++ told c.step_apart.result) (advance data_start configuration).printed = subst (λ b. Holds before (g.O.Sink.held c.flush.new.out) (b ++ told c.step_apart.result) (advance data_start configuration).printed) (sym c.in_ok-flush-in-WantsByte.ensures.empty) t.at.out in
-          noted c.note.result configuration fits c.step_apart.new.self data_start after before _ _ _ _ _ t c.note.ensures.err (c.note.ensures.ok before (advance data_start configuration).printed h) (c.note.ensures.front before (advance data_start configuration).printed h);
+          noted c.note.result _ configuration fits c.step_apart.new.self data_start after before _ _ _ _ _ t c.note.ensures.err (c.note.ensures.ok before (advance data_start configuration).printed h) (c.note.ensures.front before (advance data_start configuration).printed h);
     }
 
 pub returns-in_ok-byte-in-WantsByte-clause-given : goal.returns-in_ok-byte-in-WantsByte-clause-given
@@ -81,7 +81,7 @@ returns-in_default g c =
         takes = given_taken c.args.machine.now c.step.new.self _ _ c.step.ensures.due c.step.ensures.step;
         ends = λ configuration fits data_start before left after l a.
             let t = stepped configuration fits c.args.machine.now c.step.new.self data_start _ left after before _ _ a c.step.ensures.due c.step.ensures.step c.in_default.not-WantsByte l in
-            noted c.note-in_default.result configuration fits c.step.new.self data_start after before _ _ _ _ _ t c.note-in_default.ensures.err (c.note-in_default.ensures.ok before (advance data_start configuration).printed t.at.out) (c.note-in_default.ensures.front before (advance data_start configuration).printed t.at.out);
+            noted c.note-in_default.result _ configuration fits c.step.new.self data_start after before _ _ _ _ _ t c.note-in_default.ensures.err (c.note-in_default.ensures.ok before (advance data_start configuration).printed t.at.out) (c.note-in_default.ensures.front before (advance data_start configuration).printed t.at.out);
       };
     }
 

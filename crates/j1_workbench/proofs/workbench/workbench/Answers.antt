@@ -10,7 +10,7 @@ returns-in-Ok-clause-headline g c = λ source text input steps program asks told
 
 pub returns-in-Err-clause-headline : goal.returns-in-Err-clause-headline
 returns-in-Err-clause-headline g c = λ source text input steps program asks told built left.
-    compiled_without_note c.lines_agree.ensures c.programs_are_lines.ensures text input program _ _ _ _ _ _ built left (c.answer-status.ensures.run source text steps program asks told built) (λ refusal. (c.answer-status.ensures.refused refusal).1.bytes)
+    compiled_without_note c.lines_agree.ensures c.programs_are_lines.ensures text input program _ _ _ _ _ _ built left (c.answer-status.ensures.run source text steps program asks told built) (λ refusal. ((c.answer-status.ensures.refused refusal).0.bytes, (c.answer-status.ensures.refused refusal).1.bytes))
 
 pub returns-in-Ok-clause-missing : goal.returns-in-Ok-clause-missing
 returns-in-Ok-clause-missing g c = λ source steps asks lacking. inl (c.answer-status.ensures.lacking source steps asks lacking)
