@@ -1,29 +1,12 @@
-//! Cells of 16 bits: sums, negation and the signed view.
+//! Cells of 16 bits: sums, negation, the signed view, and products and quotients of whole numbers.
 #![tactic(auto)]
 
-ghost use Rattle.std.specs.Prelude.{◌≡◌};
-ghost use Rattle.cell_math.specs.Cell.{signed as signed_view, sum_of, negated};
+mod laws;
+mod products;
+mod quotients;
+mod sums;
 
-/// A cell: 16 bits.
-pub type Cell = u16;
-
-/// The two's complement view of a cell.
-pub fn signed(x: u16) -> i16
-    ensures { result ≡ signed_view x }
-{
-    x.cast_signed()
-}
-
-/// The sum of two cells, modulo 65536.
-pub fn add(a: u16, b: u16) -> u16
-    ensures { result ≡ sum_of a b }
-{
-    a.wrapping_add(b)
-}
-
-/// 0 less the cell, modulo 65536.
-pub fn negate(a: u16) -> u16
-    ensures { result ≡ negated a }
-{
-    a.wrapping_neg()
-}
+pub use laws::quotients_are_exact;
+pub use products::{m_star, um_star};
+pub use quotients::{fm_div, sm_div, um_div};
+pub use sums::{Cell, add, negate, signed};

@@ -6,17 +6,17 @@ use Rattle.j1_simulator.specs.OpenMachine.{open_storage}
 use Rattle.j1_simulator.specs.Run.{run, begun, open_start, open_run, IsPrefixOf}
 use Rattle.forth_program.specs.State.{World, End, Halted, InputEnded, Outside, Underflow, Unbalanced, Outcome, Goes, Ends}
 use Rattle.forth_program.specs.Program.{SourceProgram, body_of}
-use Rattle.forth_program.specs.Run.{source_run, steps, first_state, world_of, end_of}
+use Rattle.forth_program.specs.Run.{source_run, steps, first_state, world_of, end_of, lacks}
 use Rattle.forth_program.specs.Price.{price}
 use Rattle.word_laws.specs.Rings.{OpenConfiguration, BeforeEach}
 use Rattle.word_laws.specs.Bounds.{StaysWithin}
 use Rattle.word_laws.specs.Standing.{standing_as, machine_end}
-use Rattle.word_laws.specs.Words.{lacks}
 use Rattle.forth_program.specs.Tree.{Nodes}
 use Rattle.code_layout.specs.Layout.{laid_out}
 use Rattle.code_layout.specs.Library.{IsLibrary, LibraryMeans}
 use Rattle.code_layout.specs.Built.{IsBuilt}
-use Rattle.code_layout.specs.Agreement.{AreBytes, code_of, GoesWell, stop_of, Shows, DoesAsMuch, word_steps, DoesNoMore, ImagesAgree}
+use Rattle.code_layout.specs.Agreement.{AreBytes, code_of, stop_of, Shows, DoesAsMuch, word_steps, DoesNoMore, ImagesAgree}
+use Rattle.forth_program.specs.Heights.{GoesWell}
 use Rattle.code_layout.proofs.Work.{ahead, ahead_bound, loops_before, Meets}
 use Rattle.code_layout.proofs.Machine.{Laws, runs_one}
 use Rattle.code_layout.proofs.Runs.{Reaches, reaches}

@@ -1,10 +1,10 @@
 -- Each call of an image is followed by what may stand behind a call.
-use Rattle.std.proofs.Common.{◌≡◌, ℕ, suc, ◌+◌, ◌-◌, ◌<◌, ◌≤◌, inl, inr, Bool, true, false, ◌&&◌, ◌||◌, List, [], ◌∷◌, ◌++◌, length, slice_index, Option, Some, None, refl, sym, ap, ◌∙◌, subst, arith}
+use Rattle.std.proofs.Common.{◌≡◌, ℕ, ◌+◌, ◌-◌, ◌<◌, ◌≤◌, inl, inr, Bool, true, false, ◌&&◌, ◌||◌, List, [], ◌∷◌, ◌++◌, length, slice_index, Option, Some, None, refl, sym, ap, ◌∙◌, subst, arith}
 use Rattle.std.specs.Prelude.{not, nat_lt, nat_le, nat_eq, if◌then◌else◌}
 use Rattle.std.specs.List.{list_all}
 use Rattle.std.proofs.lemmas.Bool.Decides.{nat_tests}
 use Rattle.word_table.specs.declared.word.Word.{Word}
-use Rattle.word_table.specs.declared.word.Word.TheVariants.{Dup, Base, Here, Decimal}
+use Rattle.word_table.specs.declared.word.Word.TheVariants.{Dup, Base, Here, Decimal, Hex}
 use Rattle.word_table.specs.Table.{cells_of, cells_from}
 use Rattle.forth_program.specs.Tree.{Node, Nodes, Arms, Literal, Plain, Call, Child, Text, If, Until, While, Again, Do, QDo, Case, Leave, Exit, Empty, Then, NoArm, Arm}
 use Rattle.forth_program.specs.Tail.{is_tail}
@@ -40,6 +40,7 @@ pub words_have_no_calls : (data_start : ℕ) (word : Word) → list_all is_no_ca
 words_have_no_calls data_start Base = grind (arith, nat_tests)
 words_have_no_calls data_start Here = grind (arith, nat_tests)
 words_have_no_calls data_start Decimal = grind (arith, nat_tests)
+words_have_no_calls data_start Hex = grind (arith, nat_tests)
 words_have_no_calls data_start word = refl
 
 pub numbers_have_no_calls : (value : ℕ) → list_all is_no_call (number_cells value) ≡ true
@@ -62,6 +63,7 @@ module _ (code : List ℕ) where
   word_starts data_start Base at next e h = other_cell code at (0x8000 + data_start) h.0 (omega arith) (λ f. absurd (omega (arith, f)))
   word_starts data_start Here at next e h = other_cell code at (0x8000 + (data_start + 4)) h.0 (omega arith) (λ f. absurd (omega (arith, f)))
   word_starts data_start Decimal at next e h = other_cell code at 0x800A h.0 (omega arith) (λ f. absurd (omega (arith, f)))
+  word_starts data_start Hex at next e h = other_cell code at 0x8010 h.0 (omega arith) (λ f. absurd (omega (arith, f)))
   word_starts data_start word at next e h = cells_start (cells_of word) at next e h
 
   number_starts : (value at next : ℕ) → StandIn code at (number_cells value) next → MayFollow code at

@@ -12,11 +12,11 @@ use Rattle.forth_program.specs.Tail.{ends_body}
 use Rattle.forth_program.specs.Program.{SourceProgram}
 use Rattle.forth_program.specs.Step.{before, loop_begins, loop_may_begin, of_chooses, case_ends}
 use Rattle.word_laws.specs.Rings.{OpenConfiguration}
-use Rattle.word_laws.specs.Cells.{AreCells, AreEntries, IsWorld}
+use Rattle.forth_program.specs.Cells.{AreCells, AreEntries, IsWorld}
 use Rattle.word_laws.specs.Control.{Holds}
 use Rattle.word_laws.specs.Standing.{data_places, return_places, StandIn}
 use Rattle.code_layout.specs.Layout.{end_case_cells}
-use Rattle.code_layout.specs.Built.{tokens}
+use Rattle.forth_program.specs.SourceTokens.{tokens_of}
 use Rattle.code_layout.proofs.Work.{ahead, unfinished, Placed, Stands, Loops, loops_before, stands_before, Frames}
 use Rattle.code_layout.proofs.Machine.{Laws, Runs, runs_then}
 use Rattle.code_layout.proofs.Phrases.{phrase_runs}
@@ -115,7 +115,7 @@ module _ (laws : Laws) (p : SourceProgram) (code : List ℕ) (place : ℕ → �
         comes laws p code place size (There pc es (x ∷ c) data_above return_above) 1 next 1 now high return_high out (state w es c) base d.0 d.1 (omega arith) (omega arith) due d.2
         (record { stands = s; loops = l; frames = frames; cells = fc.1; entries = fe; world = fits; starts = starts })
 
-    q_do_by : (equal : Bool) (out : Option ℕ) (body : Nodes) (plus : Bool) (w u : List Work) (start limit : ℕ) (es : List Entry) (c : List ℕ) → (h : Placed code place p out pc (ends_body w) (QDo body plus) (λ q. Stands code place p out q w)) → Loops code place p out w → tokens body + 2 + ahead w ≤ p.source_tokens →
+    q_do_by : (equal : Bool) (out : Option ℕ) (body : Nodes) (plus : Bool) (w u : List Work) (start limit : ℕ) (es : List Entry) (c : List ℕ) → (h : Placed code place p out pc (ends_body w) (QDo body plus) (λ q. Stands code place p out q w)) → Loops code place p out w → tokens_of body + 2 + ahead w ≤ p.source_tokens →
         AreEntries es → AreCells (start ∷ limit ∷ c) → length c + 4 ≤ high → length (return_places es base) + 1 ≤ return_high → Leads 3 pc es (start ∷ limit ∷ c) h.2.0 (flag equal ∷ start ∷ limit ∷ c) data_above return_above →
         Follows laws p code place size (There pc es (start ∷ limit ∷ c) data_above return_above) 12 now high return_high (if equal then Goes (state w es c) else loop_begins body plus w (start ∷ limit ∷ c) (state u es (start ∷ limit ∷ c)))
     q_do_by true out body plus w u start limit es c h l n fe fc room back g =
@@ -137,7 +137,7 @@ module _ (laws : Laws) (p : SourceProgram) (code : List ℕ) (place : ℕ → �
         (runs_then laws p.data_start high return_high 3 1 v (There h.2.0 es (0 ∷ both) g.0 g.1) (There h.0 es both (top (data_places both) ∷ g.0) g.1) g.2 b)
         (do_follows laws p code place size high return_high fs world fits starts base h.0 now (top (data_places both) ∷ g.0) g.1 frames due out body plus w u es both h.4 l n fe fc (omega arith) back)
 
-    pub q_do_follows : (out : Option ℕ) (body : Nodes) (plus : Bool) (w u : List Work) (es : List Entry) (c : List ℕ) → Placed code place p out pc (ends_body w) (QDo body plus) (λ q. Stands code place p out q w) → Loops code place p out w → tokens body + 2 + ahead w ≤ p.source_tokens → AreEntries es → AreCells c →
+    pub q_do_follows : (out : Option ℕ) (body : Nodes) (plus : Bool) (w u : List Work) (es : List Entry) (c : List ℕ) → Placed code place p out pc (ends_body w) (QDo body plus) (λ q. Stands code place p out q w) → Loops code place p out w → tokens_of body + 2 + ahead w ≤ p.source_tokens → AreEntries es → AreCells c →
         length c + 2 ≤ high → length (return_places es base) + 1 ≤ return_high → Follows laws p code place size (There pc es c data_above return_above) 12 now high return_high (loop_may_begin body plus w c (state u es c))
     q_do_follows out body plus w u es [] h l n fe fc room back = tt
     q_do_follows out body plus w u es (x ∷ []) h l n fe fc room back = tt

@@ -7,19 +7,18 @@ use Rattle.j1_simulator.specs.Run.{run, begun, open_start, open_run, round_run, 
 use Rattle.j1_simulator.specs.Laws.{OnlyGrows}
 use Rattle.forth_program.specs.State.{End, Outcome, Goes, Ends}
 use Rattle.forth_program.specs.Program.{SourceProgram}
-use Rattle.forth_program.specs.Run.{source_run, world_of, end_of}
+use Rattle.forth_program.specs.Run.{source_run, world_of, end_of, lacks}
 use Rattle.forth_program.specs.Price.{price}
 use Rattle.word_laws.specs.Rings.{OpenConfiguration, BeforeEach, RunsDoTheSame, Agrees}
 use Rattle.word_laws.specs.Bounds.{StaysWithin}
 use Rattle.word_laws.specs.Standing.{machine_end}
-use Rattle.word_laws.specs.Words.{lacks}
 use Rattle.word_laws.specs.Bounds.{BoundsFitRings, BoundsJoin, EndsStay}
 use Rattle.forth_program.specs.Tree.{Nodes}
 use Rattle.code_layout.specs.Layout.{laid_out}
 use Rattle.code_layout.specs.Library.{IsLibrary, LibraryMeans}
 use Rattle.code_layout.specs.Built.{IsBuilt}
-use Rattle.code_layout.specs.Stacks.{StacksFit}
-use Rattle.code_layout.specs.Agreement.{AreBytes, code_of, GoesWell, stop_of, DoesAsMuch, word_steps, DoesNoMore, ImagesAgree}
+use Rattle.forth_program.specs.Heights.{StacksFit, GoesWell}
+use Rattle.code_layout.specs.Agreement.{AreBytes, code_of, stop_of, DoesAsMuch, word_steps, DoesNoMore, ImagesAgree}
 use Rattle.code_layout.specs.Chip.{DepthStaysWithin, AgreesOnChip}
 use Rattle.code_layout.proofs.Image.{filled_length}
 use Rattle.code_layout.proofs.Agreeing.{never_missing, stop_at}

@@ -16,7 +16,7 @@ use Rattle.forth_program.specs.Step.{First, BodyEnd, IsLiteral, IsWord, IsCall, 
 use Rattle.forth_program.specs.Run.{and_then, steps}
 use Rattle.forth_program.specs.Price.{step_price, spent}
 use Rattle.code_layout.specs.Library.{is_own}
-use Rattle.code_layout.specs.Stacks.{execute_back, DepthFits}
+use Rattle.forth_program.specs.Heights.{execute_back, DepthFits}
 use Rattle.code_layout.proofs.Machine.{both}
 
 abbrev pub AllOwn : List Work → Type 0

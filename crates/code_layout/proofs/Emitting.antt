@@ -7,7 +7,8 @@ use Rattle.forth_program.specs.Tree.{Node, Nodes, Arms, If, While, QDo, Case, Ex
 use Rattle.forth_program.specs.Tail.{is_tail}
 use Rattle.forth_program.specs.Form.{everywhere, inside, in_arms}
 use Rattle.forth_program.specs.ItemTrees.{node_of, nodes_of, tree_of, arms_tree}
-use Rattle.code_layout.specs.Built.{is_laid_out, node_tokens, tokens, arms_tokens}
+use Rattle.forth_program.specs.SourceTokens.{node_tokens, tokens_of, arms_tokens}
+use Rattle.code_layout.specs.Built.{is_laid_out}
 use Rattle.code_layout.specs.Layout.{Routine, branch_to, jump_to, q_do_cells, of_cells, end_case_cells, falls_through, reaches_end, cell_if, size_if, else_size, else_cells, size, arms_size, else_place, while_place, out_place, arm_place, others_place, node_size, loop_code, node_cells, nodes_cells, arm_cells, arms_cells}
 use Rattle.code_layout.proofs.Laying.{else_size_is, node_size_is, size_is, arm_size_is, arms_size_is}
 use Rattle.code_layout.proofs.Machine.{both}
@@ -116,7 +117,7 @@ module _ (data_start : ℕ) (place : Routine → ℕ) (out_at : ℕ) (tail : Boo
   abbrev pub Before : ℕ → ℕ → ℕ → List ℕ → List ℕ → Bool → List Item → Type 0
   Before words count most whole code reached items =
       (code ++ nodes_cells data_start place out_at (length code) tail reached (nodes_of items) ≡ whole) × (everywhere (is_laid_out true words count) (nodes_of items) ≡ true)
-      × (length code + size tail reached (nodes_of items) ≤ 8000) × (tokens (nodes_of items) ≤ most)
+      × (length code + size tail reached (nodes_of items) ≤ 8000) × (tokens_of (nodes_of items) ≤ most)
 
   -- one of them is added
   pub one_added : (words count most : ℕ) (whole code after : List ℕ) (reached here after_reached : Bool) (items : List Item) (i : ℕ) (item : Item) → i < length items → item ≡ get_or items i item → here ≡ is_tail (nodes_of (drop (i + 1) items)) tail → after_reached ≡ falls_through here (node_of item) →
@@ -150,7 +151,7 @@ module _ (data_start : ℕ) (place : Routine → ℕ) (out_at : ℕ) (tail : Boo
       let own = both (is_laid_out true words count (node_of item)) (inside (is_laid_out true words count) (node_of item)) laid.0 in
       let room = before.2 in
       let few = before.3 in
-      (own.0, own.1, omega (arith, room, size_behind items i item tail reached here lt is tail_is), omega (arith, few, ap tokens there))
+      (own.0, own.1, omega (arith, room, size_behind items i item tail reached here lt is tail_is), omega (arith, few, ap tokens_of there))
 
   -- the same for the arms of a case that ends at a place
   abbrev pub ArmsBefore : ℕ → ℕ → ℕ → ℕ → List ℕ → List ℕ → List (Items × Items) → Type 0
@@ -187,7 +188,7 @@ module _ (data_start : ℕ) (place : Routine → ℕ) (out_at : ℕ) (tail : Boo
       )
 
   pub arm_fits : (end_at words count most : ℕ) (whole code : List ℕ) (arms : List (Items × Items)) (i : ℕ) (arm : Items × Items) → i < length arms → arm ≡ get_or arms i arm → ArmsBefore end_at words count most whole code (drop i arms) →
-      (everywhere (is_laid_out true words count) (tree_of arm.0) ≡ true) × (everywhere (is_laid_out true words count) (tree_of arm.1) ≡ true) × (length code + arms_size tail (Arm (tree_of arm.0) (tree_of arm.1) NoArm) ≤ 8000) × (tokens (tree_of arm.0) + tokens (tree_of arm.1) + 2 ≤ most)
+      (everywhere (is_laid_out true words count) (tree_of arm.0) ≡ true) × (everywhere (is_laid_out true words count) (tree_of arm.1) ≡ true) × (length code + arms_size tail (Arm (tree_of arm.0) (tree_of arm.1) NoArm) ≤ 8000) × (tokens_of (tree_of arm.0) + tokens_of (tree_of arm.1) + 2 ≤ most)
   arm_fits end_at words count most whole code arms i arm lt is before =
       let now : ArmsBefore end_at words count most whole code (arm ∷ drop (i + 1) arms) = subst (ArmsBefore end_at words count most whole code) (next_arm arms i arm lt is) before in
       let all = both (everywhere (is_laid_out true words count) (tree_of arm.0) && everywhere (is_laid_out true words count) (tree_of arm.1)) (in_arms (is_laid_out true words count) (arms_tree (drop (i + 1) arms))) now.1 in

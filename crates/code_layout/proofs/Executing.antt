@@ -22,11 +22,12 @@ use Rattle.forth_program.specs.ByteWords.{type_out}
 use Rattle.forth_program.specs.Step.{word_step, on_cells}
 use Rattle.word_laws.specs.Rings.{OpenConfiguration, BeforeEach}
 use Rattle.word_laws.specs.Bounds.{StaysWithin}
-use Rattle.word_laws.specs.Cells.{AreCells, AreEntries, IsWorld}
+use Rattle.forth_program.specs.Cells.{AreCells, AreEntries, IsWorld}
 use Rattle.word_laws.specs.Control.{Holds}
 use Rattle.word_laws.specs.Numbers.{number_cells}
 use Rattle.word_laws.specs.Standing.{data_places, counted, standing_as, EndedIn, HasCome, StandIn}
-use Rattle.word_laws.specs.Words.{return_need, lacks}
+use Rattle.word_laws.specs.Words.{return_need}
+use Rattle.forth_program.specs.Run.{lacks}
 use Rattle.code_layout.specs.Layout.{branch_to, call_to, return_cell, execute_cells, abort_cells}
 use Rattle.code_layout.proofs.Machine.{Laws, Runs, narrower, runs_then, runs_one}
 use Rattle.code_layout.proofs.Phrases.{phrase, is_free, outcome, CellsSuffice, word_ready, word_bounded, word_comes, phrase_runs}

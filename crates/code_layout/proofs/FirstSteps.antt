@@ -11,10 +11,10 @@ use Rattle.forth_program.specs.Tail.{ends_body}
 use Rattle.forth_program.specs.Program.{SourceProgram}
 use Rattle.forth_program.specs.Step.{First, BodyEnd, IsLiteral, IsWord, IsCall, IsChild, IsText, IsIf, IsTrueEnd, IsUntil, IsWhile, IsRepeat, IsAgain, IsDo, IsQDo, IsTurn, IsOf, IsEndOf, IsEndCase, IsLeave, IsExit, before, word_step, act, first, step}
 use Rattle.forth_program.specs.Price.{word_price, first_price, step_price}
-use Rattle.word_laws.specs.Cells.{AreCells, AreEntries, IsWorld}
+use Rattle.forth_program.specs.Cells.{AreCells, AreEntries, IsWorld}
 use Rattle.word_laws.specs.Control.{Holds}
 use Rattle.word_laws.specs.Standing.{return_places, standing_as}
-use Rattle.code_layout.specs.Stacks.{peak_of, back_of, DepthFits}
+use Rattle.forth_program.specs.Heights.{peak_of, back_of, DepthFits}
 use Rattle.code_layout.proofs.Work.{ahead, unfinished, Placed, Stands, Loops, loops_before, stands_before, stands_to, back, opens, Frames, Meets}
 use Rattle.code_layout.proofs.Machine.{Laws}
 use Rattle.code_layout.proofs.Steps.{Follows, AllStand, applies, number_follows, word_follows, jump_follows, call_follows, true_end_follows, flag_follows}

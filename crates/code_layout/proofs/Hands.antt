@@ -1,17 +1,17 @@
 -- One word step: EXECUTE, and then the item of its token, whose code is a routine of its own.
-use Rattle.std.proofs.Common.{◌≡◌, ◌⊎◌, inl, inr, ℕ, suc, ◌+◌, ◌-◌, ◌*◌, ◌/◌, ◌<◌, ◌≤◌, nat_le, IsTrue, Bool, true, false, List, [], ◌∷◌, ◌++◌, length, Option, Some, None, refl, sym, ap, ◌∙◌, subst, arith}
+use Rattle.std.proofs.Common.{◌≡◌, ◌⊎◌, inl, inr, ℕ, suc, ◌+◌, ◌-◌, ◌*◌, ◌/◌, ◌<◌, ◌≤◌, nat_le, IsTrue, Bool, true, false, List, [], ◌∷◌, length, Option, Some, None, refl, sym, ap, ◌∙◌, subst, arith}
 use Rattle.std.specs.Prelude.{ℤ, pos, negsuc}
 use Rattle.std.proofs.lemmas.Bool.Decides.{nat_tests}
 use Rattle.word_table.specs.declared.word.Word.{Word}
 use Rattle.word_table.specs.declared.word.Word.TheVariants.{Dup, ToR, RFrom, RFetch, Index, OuterIndex, Unloop, Execute}
 use Rattle.word_table.specs.Table.{entry_of}
-use Rattle.j1_table.specs.declared.instr.Instr.TheVariants.{Jump, Call as CallTo}
+use Rattle.j1_table.specs.declared.instr.Instr.TheVariants.{Jump}
 use Rattle.j1_simulator.specs.Effect.{following}
 use Rattle.j1_simulator.specs.OpenMachine.{rest, open_storage}
 use Rattle.j1_simulator.specs.Run.{run}
 use Rattle.forth_program.specs.Tree.{Node, Literal, Plain, Call, Child, Text, If, Until, While, Again, Do, QDo, Case, Leave, Exit}
 use Rattle.forth_program.specs.Tail.{ends_body}
-use Rattle.forth_program.specs.State.{Entry, Cell, Work, Todo, Frame, World, State, Reply, Gives, Stops, End, Halted, InputEnded, Outside, Underflow, Unbalanced, Outcome, Goes, Ends}
+use Rattle.forth_program.specs.State.{Entry, Work, Todo, Frame, World, State, Reply, Gives, Stops, End, Halted, InputEnded, Outside, Underflow, Unbalanced, Outcome, Goes, Ends}
 use Rattle.forth_program.specs.Program.{SourceProgram, body_of, token_of}
 use Rattle.forth_program.specs.Form.{may_be_token}
 use Rattle.forth_program.specs.Meaning.{meaning}
@@ -19,20 +19,20 @@ use Rattle.forth_program.specs.Step.{First, IsWord, on_cells, with_token, word_s
 use Rattle.forth_program.specs.Price.{word_price, first_price, step_price}
 use Rattle.word_laws.specs.Rings.{OpenConfiguration, BeforeEach}
 use Rattle.word_laws.specs.Bounds.{StaysWithin}
-use Rattle.word_laws.specs.Cells.{AreCells, AreEntries, IsWorld}
+use Rattle.forth_program.specs.Cells.{AreCells, AreEntries, IsWorld}
 use Rattle.word_laws.specs.Control.{Holds}
 use Rattle.word_laws.specs.Numbers.{number_cells}
 use Rattle.word_laws.specs.Standing.{return_places, counted, standing_as, EndedIn, StandIn}
 use Rattle.word_laws.specs.Words.{stands_plain, ChangesBy, LeavesBy}
-use Rattle.code_layout.specs.Stacks.{address_height, peak_of, back_of, execute_back, token_back, DepthFits}
+use Rattle.forth_program.specs.Heights.{address_height, peak_of, back_of, execute_back, token_back, DepthFits}
 use Rattle.code_layout.specs.Agreement.{Shows}
 use Rattle.code_layout.proofs.Machine.{Laws, Runs, narrower, wider, runs_then, runs_one}
 use Rattle.code_layout.proofs.Routines.{places_below, Returned, Stopped, Answers, IsRoutine}
-use Rattle.code_layout.proofs.LibraryWords.{FewLeft, library_few}
+use Rattle.code_layout.proofs.LibraryWords.{FewLeft}
 use Rattle.code_layout.proofs.Work.{ahead, steps_left, unfinished, callers_fit, Returns, CallStands, TokenStands, IsExecutor, Stands, Loops, loops_before, ahead_bound, Called, Frames}
 use Rattle.code_layout.proofs.Steps.{Halts, Follows, comes, follows_after, AllStand, applies, number_some, number_short, number_runs, word_follows}
 use Rattle.code_layout.specs.Library.{routine_price}
-use Rattle.word_table.specs.Table.{cells_of, cells_from}
+use Rattle.word_table.specs.Table.{cells_from}
 use Rattle.code_layout.proofs.LibrarySteps.{flattened, routine_cheap, routine_back}
 use Rattle.code_layout.proofs.Returning.{body_ends}
 

@@ -1,5 +1,5 @@
 -- The image of a program: its code, and where the machine and the source begin.
-use Rattle.std.proofs.Common.{◌≡◌, ℕ, zero, suc, ◌+◌, ◌-◌, ◌/◌, ◌<◌, ◌≤◌, Bool, true, false, List, [], ◌∷◌, ◌++◌, length, replicate, slice_index, Some, None, refl, sym, ap, ◌∙◌, length-append, arith}
+use Rattle.std.proofs.Common.{◌≡◌, ℕ, zero, suc, ◌+◌, ◌-◌, ◌/◌, ◌<◌, ◌≤◌, Bool, true, false, List, [], ◌∷◌, ◌++◌, length, replicate, slice_index, Some, None, refl, ap, ◌∙◌, length-append, arith}
 use Rattle.std.specs.Prelude.{slice_index_or}
 use Rattle.std.specs.List.{list_all}
 use Rattle.std.proofs.lemmas.List.{length-replicate}
@@ -14,14 +14,15 @@ use Rattle.forth_program.specs.Program.{SourceProgram}
 use Rattle.forth_program.specs.Form.{IsDataStart, everywhere, leaves_fit}
 use Rattle.forth_program.specs.Step.{before}
 use Rattle.forth_program.specs.Run.{first_world, first_state}
-use Rattle.word_laws.specs.Cells.{IsWorld}
+use Rattle.forth_program.specs.Cells.{IsWorld}
 use Rattle.word_table.specs.declared.word.Word.{Word}
 use Rattle.word_table.specs.declared.word.Word.TheVariants.{TypeOut}
 use Rattle.word_laws.specs.Control.{Holds, halt_cells}
 use Rattle.word_laws.specs.Standing.{standing_as, StandIn}
 use Rattle.code_layout.specs.Layout.{Routine, Definition, Library, Executing, Aborting, type_routine, return_cell, reaches_end, cell_if, size, body_size, nodes_cells, body_cells, bodies_cells, begins_at, bodies_size, execute_cells, abort_cells, tokens_cells, token_size, token_jumps, library_place, execute_place, abort_place, first_place, tokens_place, place_of, laid_out}
 use Rattle.code_layout.specs.Numbering.{library_number}
-use Rattle.code_layout.specs.Built.{is_laid_out, tokens, all_tokens, IsBuilt}
+use Rattle.forth_program.specs.SourceTokens.{tokens_of, all_tokens}
+use Rattle.code_layout.specs.Built.{is_laid_out, IsBuilt}
 use Rattle.code_layout.specs.Agreement.{AreBytes, code_of}
 use Rattle.code_layout.proofs.Routines.{IsRoutine, IsAborter}
 use Rattle.code_layout.proofs.Work.{Returns, IsExecutor, Stands, stands_before}
@@ -106,7 +107,7 @@ module _ (code : List ℕ) (place : Routine → ℕ) where
   module _ (p : SourceProgram) (executes : Bool) (words : ℕ) (routine : (word : Word) (number : ℕ) → library_number word ≡ Some number → number < words → IsRoutine p.data_start code word (place (Library number)))
       (executor : executes ≡ true → IsExecutor code (λ d. place (Definition d)) p (place Executing)) (aborter : executes ≡ true → 34 < words → IsAborter p.data_start code (place Aborting)) (low : (r : Routine) → place r < 8192) where
     -- a body whose code stands is laid out as work
-    pub body_stands : (at : ℕ) (body : Nodes) → BodyCode p.data_start code place at body → everywhere (is_laid_out executes words (length p.bodies)) body ≡ true → leaves_fit false body ≡ true → tokens body ≤ p.source_tokens →
+    pub body_stands : (at : ℕ) (body : Nodes) → BodyCode p.data_start code place at body → everywhere (is_laid_out executes words (length p.bodies)) body ≡ true → leaves_fit false body ≡ true → tokens_of body ≤ p.source_tokens →
         Stands code (λ d. place (Definition d)) p None at (before body [])
     body_stands at body b items leaves few =
         stands_before code (λ d. place (Definition d)) p body None at [] (Returns code (λ d. place (Definition d)) p) (λ q k. k)
@@ -118,10 +119,10 @@ test_of test [] d all lt = absurd (omega arith)
 test_of test (body ∷ bodies) zero all lt = (both (test body) (list_all test bodies) all).0
 test_of test (body ∷ bodies) (suc d) all lt = test_of test bodies d (both (test body) (list_all test bodies) all).1 (omega arith)
 
-pub tokens_of : (bodies : List Nodes) (d : ℕ) → d < length bodies → tokens (slice_index_or bodies d Empty) ≤ all_tokens bodies
-tokens_of [] d lt = absurd (omega arith)
-tokens_of (body ∷ bodies) zero lt = omega arith
-tokens_of (body ∷ bodies) (suc d) lt = let h = tokens_of bodies d (omega arith) in omega (arith, h)
+pub tokens_within : (bodies : List Nodes) (d : ℕ) → d < length bodies → tokens_of (slice_index_or bodies d Empty) ≤ all_tokens bodies
+tokens_within [] d lt = absurd (omega arith)
+tokens_within (body ∷ bodies) zero lt = omega arith
+tokens_within (body ∷ bodies) (suc d) lt = let h = tokens_within bodies d (omega arith) in omega (arith, h)
 
 pub begins_low : (at most : ℕ) (bodies : List Nodes) (d : ℕ) → at + bodies_size bodies < 8192 → begins_at at bodies d < 8192
 begins_low at most [] d h = omega arith
@@ -265,5 +266,5 @@ module _ (laws : Laws) (library : List Nodes) (p : SourceProgram) (built : IsBui
     bodies = λ d lt.
         body_stands (code_of library p) (place_of library p) p true (length library) routine (λ e. executes routine) (λ e. aborts routine) low (definitions d) (slice_index_or p.bodies d Empty) (program_code d lt)
         (test_of (everywhere (is_laid_out true (length library) (length p.bodies))) p.bodies d built.items lt) (test_of (leaves_fit false) p.bodies d built.leaves_in_loops lt)
-        (let counted = built.tokens_counted in omega (arith, counted, tokens_of p.bodies d lt));
+        (let counted = built.tokens_counted in omega (arith, counted, tokens_within p.bodies d lt));
   }

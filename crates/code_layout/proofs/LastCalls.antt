@@ -1,6 +1,5 @@
 -- Last calls are jumps: no call of an image stands before a return.
 use Rattle.std.proofs.Common.{◌≡◌, ℕ, zero, suc, ◌+◌, ◌<◌, ◌≤◌, inl, inr, ⊎_elim, Bool, true, false, ◌&&◌, List, [], ◌∷◌, ◌++◌, length, slice_index, Option, Some, None, refl, sym, ap, ◌∙◌, subst, length-append, arith}
-use Rattle.std.specs.Prelude.{nat_lt}
 use Rattle.std.specs.List.{list_all}
 use Rattle.std.proofs.lemmas.Bool.{cases_lt}
 use Rattle.std.proofs.lemmas.Bool.Decides.{nat_tests}
@@ -10,14 +9,14 @@ use Rattle.word_table.specs.declared.word.Word.{Word}
 use Rattle.word_table.specs.Table.{cells_from}
 use Rattle.forth_program.specs.Tree.{Node, Nodes, Literal, Plain, Call, Child}
 use Rattle.forth_program.specs.Program.{SourceProgram}
-use Rattle.forth_program.specs.Form.{everywhere, has_id_below, leaves_fit}
+use Rattle.forth_program.specs.Form.{everywhere, has_id_below, calls_go_back, leaves_fit}
 use Rattle.word_laws.specs.Numbers.{number_cells}
 use Rattle.word_laws.specs.Standing.{StandIn, CellsStand}
 use Rattle.code_layout.specs.Numbering.{library_number}
 use Rattle.code_layout.specs.Layout.{Routine, Definition, Library, Executing, Aborting, type_routine, jump_to, branch_to, call_to, return_cell, body_size, body_cells, bodies_cells, begins_at, bodies_size, execute_cells, abort_cells, word_token_cells, word_token_place, token_cells, token_size, tokens_cells, token_place, token_jumps, library_place, execute_place, abort_place, first_place, tokens_place, place_of, laid_out}
 use Rattle.code_layout.specs.Built.{is_laid_out, IsBuilt}
 use Rattle.code_layout.specs.Library.{each_uses_earlier, IsLibrary}
-use Rattle.code_layout.specs.LastCalls.{IsReturn, IsCall, LastCalls, begins_well, all_begin_well, calls_go_back}
+use Rattle.code_layout.specs.LastCalls.{IsReturn, IsCall, LastCalls, begins_well, all_begin_well}
 use Rattle.code_layout.proofs.Machine.{both}
 use Rattle.code_layout.proofs.Laying.{body_size_is, token_size_is, cut, onward}
 use Rattle.code_layout.proofs.Image.{begins_low, bodies_size_is, jumps_length}

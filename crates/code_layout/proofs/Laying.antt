@@ -9,7 +9,7 @@ use Rattle.j1_table.specs.declared.instr.Instr.TheVariants.{Jump, Branch, Call a
 use Rattle.j1_table.specs.Instruction.{decoded}
 use Rattle.j1_simulator.specs.Effect.{following}
 use Rattle.word_table.specs.declared.word.Word.{Word}
-use Rattle.word_table.specs.declared.word.Word.TheVariants.{Base, Here, Decimal, Execute, TypeOut}
+use Rattle.word_table.specs.declared.word.Word.TheVariants.{Base, Here, Decimal, Hex, Execute, TypeOut}
 use Rattle.forth_program.specs.declared.item.TextKind.{TextKind}
 use Rattle.forth_program.specs.declared.item.TextKind.TheVariants as text
 use Rattle.word_table.specs.Table.{cells_of, cells_from}
@@ -22,7 +22,7 @@ use Rattle.word_laws.specs.Numbers.{number_cells}
 use Rattle.word_laws.specs.Standing.{StandIn}
 use Rattle.word_laws.specs.Words.{stands_plain}
 use Rattle.code_layout.specs.Numbering.{library_number}
-use Rattle.code_layout.specs.Layout.{Routine, Definition, Library, Executing, Aborting, type_routine, routine_of, numbered, word_falls_through, text_falls_through, word_size, text_size, word_cells, text_cells, word_token_cells, word_token_size, word_token_place, token_cells, token_size, tokens_cells, token_place, token_jumps, jump_to, branch_to, call_to, call_cell, return_cell, do_cells, loop_cells, plus_loop_cells, out_cells, turn_cells, turn_size, q_do_cells, of_cells, end_case_cells, falls_through, reaches_end, cell_if, size_if, else_size, node_size, size, arms_size, body_size, else_place, while_place, out_place, arm_place, others_place, else_cells, loop_code, arm_code, node_cells, nodes_cells, arms_cells, body_cells}
+use Rattle.code_layout.specs.Layout.{Routine, Definition, Library, Executing, Aborting, routine_of, numbered, word_falls_through, text_falls_through, word_size, text_size, word_cells, text_cells, word_token_cells, word_token_size, word_token_place, token_cells, token_size, tokens_cells, token_place, token_jumps, jump_to, branch_to, call_to, call_cell, return_cell, do_cells, loop_cells, plus_loop_cells, out_cells, turn_cells, turn_size, q_do_cells, of_cells, end_case_cells, falls_through, reaches_end, cell_if, size_if, else_size, node_size, size, arms_size, body_size, else_place, while_place, out_place, arm_place, others_place, else_cells, loop_code, arm_code, node_cells, nodes_cells, arms_cells, body_cells}
 use Rattle.code_layout.specs.Built.{word_is_laid_out, text_is_laid_out, is_laid_out, token_is_laid_out}
 use Rattle.code_layout.proofs.Machine.{both}
 use Rattle.code_layout.proofs.Routines.{IsRoutine, IsAborter}
@@ -56,6 +56,7 @@ pub from_size : (data_start : ℕ) (word : Word) → length (cells_from data_sta
 from_size data_start Base = refl
 from_size data_start Here = refl
 from_size data_start Decimal = refl
+from_size data_start Hex = refl
 from_size data_start word = refl
 
 word_size_is : (found : Option Routine) (word : Word) (data_start : ℕ) (place : Routine → ℕ) (tail : Bool) → length (word_cells data_start place tail found word) ≡ word_size found word

@@ -1,5 +1,5 @@
 -- Every library word is done by its routine, the first words first.
-use Rattle.std.proofs.Common.{◌≡◌, ℕ, zero, suc, ◌+◌, ◌-◌, ◌/◌, ◌<◌, ◌≤◌, inl, inr, true, false, List, [], ◌∷◌, ◌++◌, length, Option, Some, None, refl, sym, ap, ◌∙◌, subst, arith}
+use Rattle.std.proofs.Common.{◌≡◌, ℕ, zero, suc, ◌+◌, ◌-◌, ◌<◌, ◌≤◌, inl, inr, true, false, List, [], ◌∷◌, ◌++◌, length, Option, Some, None, refl, sym, ap, ◌∙◌, subst, arith}
 use Rattle.std.specs.Prelude.{slice_index_or}
 use Rattle.j1_simulator.specs.Step.{Stop}
 use Rattle.j1_simulator.specs.OpenMachine.{open_storage}
@@ -12,15 +12,15 @@ use Rattle.forth_program.specs.Program.{SourceProgram}
 use Rattle.forth_program.specs.Form.{everywhere, leaves_fit}
 use Rattle.forth_program.specs.Meaning.{meaning}
 use Rattle.forth_program.specs.Step.{before, first, on_cells}
-use Rattle.forth_program.specs.Run.{steps, end_of}
+use Rattle.forth_program.specs.Run.{steps, end_of, lacks}
 use Rattle.word_laws.specs.Rings.{OpenConfiguration}
-use Rattle.word_laws.specs.Cells.{AreCells, AreEntries, IsWorld}
+use Rattle.forth_program.specs.Cells.{AreCells, AreEntries, IsWorld}
 use Rattle.word_laws.specs.Standing.{return_places, counted, machine_end}
-use Rattle.word_laws.specs.Words.{lacks}
 use Rattle.code_layout.specs.Numbering.{library_number}
 use Rattle.code_layout.specs.Layout.{Library, place_of}
-use Rattle.code_layout.specs.Built.{is_laid_out, all_tokens, IsBuilt}
-use Rattle.code_layout.specs.Stacks.{entries_height, callers_height, return_height, peak_of, back_of, execute_back, StepsFit, DepthFits, DepthsFit}
+use Rattle.forth_program.specs.SourceTokens.{all_tokens}
+use Rattle.code_layout.specs.Built.{is_laid_out, IsBuilt}
+use Rattle.forth_program.specs.Heights.{entries_height, callers_height, return_height, peak_of, back_of, execute_back, StepsFit, DepthFits, DepthsFit}
 use Rattle.forth_program.specs.Price.{spent}
 use Rattle.code_layout.proofs.Deeper.{AllOwn, own_before, own_depth, own_execute, Busy, balanced, deeper_outcome, runs_deeper, IsDeeper, state_deeper}
 use Rattle.code_layout.specs.Library.{is_own, routine_price, body_begins, body_is_done, each_uses_earlier, IsLibrary, BodyMeans, LibraryMeans}
@@ -31,7 +31,7 @@ use Rattle.code_layout.proofs.LibraryWords.{finds_cells, library_need, FewLeft, 
 use Rattle.code_layout.proofs.Work.{places_height, ahead, Stands, loops_before, Meets}
 use Rattle.code_layout.proofs.Steps.{AllStand}
 use Rattle.code_layout.proofs.Runs.{Reaches, StandsAs, StandsWhere, reaches}
-use Rattle.code_layout.proofs.Image.{code_size, definitions, low, halt_stands, library_code, body_stands, test_of, tokens_of}
+use Rattle.code_layout.proofs.Image.{code_size, definitions, low, halt_stands, library_code, body_stands, test_of, tokens_within}
 
 -- a body uses earlier words alone
 earlier_words : (from : ℕ) (bodies : List Nodes) (d : ℕ) → each_uses_earlier from bodies ≡ true → d < length bodies → everywhere (is_laid_out false (from + d) 0) (slice_index_or bodies d Empty) ≡ true
@@ -207,7 +207,7 @@ module _ (laws : Laws) (library : List Nodes) (p : SourceProgram) (built : IsBui
       let from_zero : 0 + number ≡ number = omega arith in
       is_routine word number is lt' (test_of (everywhere is_own) library number form.own_items lt')
       (body_stands code (place_of library p) alone false number (λ word' number' is' below. routines_below n word' number' is' (omega arith) (omega arith)) (λ e. absurd (let f : false ≡ true = e in cc)) (λ e. absurd (let f : false ≡ true = e in cc)) (low laws library p built) (place_of library p (Library number)) (slice_index_or library number Empty)
-      (library_code laws library p built number lt') (subst (λ n. everywhere (is_laid_out false n 0) (slice_index_or library number Empty) ≡ true) from_zero (earlier_words 0 library number form.items lt')) (test_of (leaves_fit false) library number form.leaves_in_loops lt') (tokens_of library number lt'))
+      (library_code laws library p built number lt') (subst (λ n. everywhere (is_laid_out false n 0) (slice_index_or library number Empty) ≡ true) from_zero (earlier_words 0 library number form.items lt')) (test_of (leaves_fit false) library number form.leaves_in_loops lt') (tokens_within library number lt'))
 
   pub routines : (word : Word) (number : ℕ) → library_number word ≡ Some number → number < length library → IsRoutine p.data_start code word (place_of library p (Library number))
   routines word number is lt = routines_below (suc number) word number is (omega arith) lt

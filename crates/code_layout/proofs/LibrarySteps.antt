@@ -4,7 +4,7 @@ use Rattle.std.proofs.lemmas.Bool.Decides.{nat_tests}
 use Rattle.word_table.specs.declared.word.Word.{Word}
 use Rattle.word_table.specs.declared.word.Word.TheVariants.{TypeOut}
 use Rattle.word_table.specs.Table.{entry_of}
-use Rattle.j1_table.specs.declared.instr.Instr.TheVariants.{Jump, Call as CallTo}
+use Rattle.j1_table.specs.declared.instr.Instr.TheVariants.{Call as CallTo}
 use Rattle.j1_simulator.specs.Effect.{following}
 use Rattle.j1_simulator.specs.OpenMachine.{rest, open_storage}
 use Rattle.j1_simulator.specs.Run.{run}
@@ -17,7 +17,7 @@ use Rattle.forth_program.specs.Meaning.{meaning}
 use Rattle.forth_program.specs.Price.{word_price}
 use Rattle.word_laws.specs.Rings.{OpenConfiguration, BeforeEach}
 use Rattle.word_laws.specs.Bounds.{StaysWithin}
-use Rattle.word_laws.specs.Cells.{AreCells, AreEntries, IsWorld}
+use Rattle.forth_program.specs.Cells.{AreCells, AreEntries, IsWorld}
 use Rattle.word_laws.specs.Control.{Holds}
 use Rattle.word_laws.specs.Standing.{return_places, counted, standing_as, EndedIn}
 use Rattle.code_layout.specs.Numbering.{library_number}

@@ -12,14 +12,14 @@ use Rattle.forth_program.specs.State.{Entry, Cell, Loop, Work, Todo, TrueEnd, Un
 use Rattle.forth_program.specs.Program.{SourceProgram}
 use Rattle.forth_program.specs.Tail.{ends_body}
 use Rattle.forth_program.specs.Price.{turn_price}
-use Rattle.code_layout.specs.Stacks.{peak_of}
+use Rattle.forth_program.specs.Heights.{peak_of}
 use Rattle.forth_program.specs.Step.{IsTurn, before, loop_begins, turned, turn, after_loop, leave}
 use Rattle.word_laws.specs.Rings.{OpenConfiguration}
-use Rattle.word_laws.specs.Cells.{AreCells, AreEntries, IsWorld}
+use Rattle.forth_program.specs.Cells.{AreCells, AreEntries, IsWorld}
 use Rattle.word_laws.specs.Control.{Holds}
 use Rattle.word_laws.specs.Standing.{data_places, return_places, standing_as, StandIn}
 use Rattle.code_layout.specs.Layout.{do_cells, out_cells, loop_cells, plus_loop_cells}
-use Rattle.code_layout.specs.Built.{tokens}
+use Rattle.forth_program.specs.SourceTokens.{tokens_of}
 use Rattle.code_layout.proofs.Work.{ahead, unfinished, Placed, Stands, Loops, loops_before, stands_to, Frames}
 use Rattle.code_layout.proofs.Machine.{Laws, Runs, runs_then, runs_one}
 use Rattle.code_layout.proofs.Phrases.{phrase_runs}
@@ -112,7 +112,7 @@ module _ (laws : Laws) (p : SourceProgram) (code : List ℕ) (place : ℕ → �
   difference_small limit index = mod-lt (index + (65536 - limit)) (omega arith)
 
   module _ (pc now : ℕ) (data_above return_above : List (Option ℕ)) (frames : Frames code place p fs base) (due : unfinished fs ≤ now) where
-    pub do_follows : (out : Option ℕ) (body : Nodes) (plus : Bool) (w u : List Work) (es : List Entry) (c : List ℕ) → Placed code place p out pc (ends_body w) (Do body plus) (λ q. Stands code place p out q w) → Loops code place p out w → tokens body + 2 + ahead w ≤ p.source_tokens → AreEntries es → AreCells c →
+    pub do_follows : (out : Option ℕ) (body : Nodes) (plus : Bool) (w u : List Work) (es : List Entry) (c : List ℕ) → Placed code place p out pc (ends_body w) (Do body plus) (λ q. Stands code place p out q w) → Loops code place p out w → tokens_of body + 2 + ahead w ≤ p.source_tokens → AreEntries es → AreCells c →
         length c + 1 ≤ high → length (return_places es base) + 1 ≤ return_high → Follows laws p code place size (at pc es c data_above return_above) 8 now high return_high (loop_begins body plus w c (with_cells u es c))
     do_follows out body plus w u es [] h l n fe fc room back = tt
     do_follows out body plus w u es (x ∷ []) h l n fe fc room back = tt

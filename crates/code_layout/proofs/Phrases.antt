@@ -2,19 +2,19 @@
 use Rattle.std.proofs.Common.{◌≡◌, ℕ, ◌+◌, ◌-◌, ◌/◌, ◌≤◌, Bool, true, false, refl, List, [], ◌∷◌, ◌++◌, length, Option, sym, ap, ◌∙◌, subst, length-append}
 use Rattle.std.specs.List.{list_all}
 use Rattle.word_table.specs.declared.word.Word.{Word}
-use Rattle.word_table.specs.declared.word.Word.TheVariants.{Depth, Base, Here, Decimal}
+use Rattle.word_table.specs.declared.word.Word.TheVariants.{Depth, Base, Here, Decimal, Hex}
 use Rattle.word_table.specs.Table.{entry_of, cells_of, cells_from}
 use Rattle.forth_program.specs.State.{State, Outcome, Goes, Ends}
 use Rattle.forth_program.specs.Program.{SourceProgram}
 use Rattle.forth_program.specs.Step.{word_step}
-use Rattle.forth_program.specs.Run.{and_then}
+use Rattle.forth_program.specs.Run.{and_then, lacks}
 use Rattle.j1_simulator.specs.OpenMachine.{open_storage}
 use Rattle.j1_simulator.specs.Run.{run}
 use Rattle.word_laws.specs.Rings.{BeforeEach}
 use Rattle.word_laws.specs.Bounds.{StaysWithin}
-use Rattle.word_laws.specs.Cells.{AreCells, AreEntries, IsWorld}
+use Rattle.forth_program.specs.Cells.{AreCells, AreEntries, IsWorld}
 use Rattle.word_laws.specs.Standing.{return_places, standing_as, HasCome, StandIn}
-use Rattle.word_laws.specs.Words.{stands_plain, return_need, CellsApply, IsReady, lacks}
+use Rattle.word_laws.specs.Words.{stands_plain, return_need, CellsApply, IsReady}
 use Rattle.code_layout.proofs.Machine.{Laws, Runs, both, stand_split, wider, runs_then}
 
 -- the cells of words
@@ -28,6 +28,7 @@ is_free Depth = false
 is_free Base = false
 is_free Here = false
 is_free Decimal = false
+is_free Hex = false
 is_free word = stands_plain word
 
 free_applies : (word : Word) (c : List ℕ) → is_free word ≡ true → (stands_plain word ≡ true) × CellsApply word c
@@ -35,6 +36,7 @@ free_applies Depth c e = absurd (let f : false ≡ true = e in cc)
 free_applies Base c e = absurd (let f : false ≡ true = e in cc)
 free_applies Here c e = absurd (let f : false ≡ true = e in cc)
 free_applies Decimal c e = absurd (let f : false ≡ true = e in cc)
+free_applies Hex c e = absurd (let f : false ≡ true = e in cc)
 free_applies word c e = (e, tt)
 
 -- it has the same cells wherever data space begins
@@ -42,6 +44,7 @@ free_cells : (data_start : ℕ) (word : Word) → is_free word ≡ true → cell
 free_cells data_start Base e = absurd (let f : false ≡ true = e in cc)
 free_cells data_start Here e = absurd (let f : false ≡ true = e in cc)
 free_cells data_start Decimal e = absurd (let f : false ≡ true = e in cc)
+free_cells data_start Hex e = absurd (let f : false ≡ true = e in cc)
 free_cells data_start word e = refl
 
 abbrev on_state : Outcome → (State → Type 0) → Type 0

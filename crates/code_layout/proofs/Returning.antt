@@ -9,9 +9,9 @@ use Rattle.forth_program.specs.Step.{left}
 use Rattle.forth_program.specs.Tail.{ends_body}
 use Rattle.word_laws.specs.Rings.{OpenConfiguration, BeforeEach}
 use Rattle.word_laws.specs.Bounds.{StaysWithin}
-use Rattle.word_laws.specs.Cells.{AreCells, IsWorld}
+use Rattle.forth_program.specs.Cells.{AreCells, IsWorld}
 use Rattle.word_laws.specs.Standing.{return_places, counted, HasCome}
-use Rattle.code_layout.specs.Stacks.{end_peak}
+use Rattle.forth_program.specs.Heights.{end_peak}
 use Rattle.code_layout.proofs.Work.{ahead, steps_left, unfinished, Returns, ends_at_return, Waits, Pends, Called, Frames}
 use Rattle.code_layout.proofs.Machine.{Laws, Runs, narrower, wider, runs_one}
 use Rattle.code_layout.proofs.Steps.{Comes, Halts, Follows, comes, stays, AllStand}

@@ -12,7 +12,7 @@ use Rattle.forth_program.specs.Meaning.{meaning}
 use Rattle.code_layout.specs.Library.{routine_price}
 use Rattle.word_laws.specs.Rings.{OpenConfiguration, BeforeEach}
 use Rattle.word_laws.specs.Bounds.{StaysWithin}
-use Rattle.word_laws.specs.Cells.{AreCells, AreEntries, IsWorld}
+use Rattle.forth_program.specs.Cells.{AreCells, AreEntries, IsWorld}
 use Rattle.word_laws.specs.Control.{Holds}
 use Rattle.word_laws.specs.Standing.{return_places, counted, machine_end, EndedIn}
 use Rattle.code_layout.specs.Numbering.{library_number}

@@ -7,13 +7,12 @@ use Rattle.forth_program.specs.State.{Work, Todo, World, State, End, Halted, Inp
 use Rattle.forth_program.specs.Program.{SourceProgram}
 use Rattle.forth_program.specs.Tail.{ends_body}
 use Rattle.forth_program.specs.Step.{first, step}
-use Rattle.forth_program.specs.Run.{steps, end_of}
+use Rattle.forth_program.specs.Run.{steps, end_of, lacks}
 use Rattle.forth_program.specs.Price.{step_price, spent}
 use Rattle.word_laws.specs.Rings.{OpenConfiguration, BeforeEach}
 use Rattle.word_laws.specs.Bounds.{StaysWithin}
 use Rattle.word_laws.specs.Standing.{return_places, standing_as}
-use Rattle.word_laws.specs.Words.{lacks}
-use Rattle.code_layout.specs.Stacks.{address_height, return_height, peak_of, back_of, StepsFit, DepthsFit}
+use Rattle.forth_program.specs.Heights.{address_height, return_height, peak_of, back_of, StepsFit, DepthsFit}
 use Rattle.code_layout.specs.Agreement.{Shows}
 use Rattle.code_layout.proofs.Work.{places_height, callers_fit, ahead, unfinished, Meets}
 use Rattle.code_layout.proofs.Machine.{Laws, Runs, narrower, wider, runs_then}

@@ -1,7 +1,6 @@
 -- Images of small programs, and what they print.
 use Rattle.std.proofs.Common.{◌≡◌, ℕ, zero, suc, ◌+◌, ◌<◌, subst, rules, false, true, None, Some, List, [], ◌∷◌, ◌++◌, length, refl, ap, ◌∙◌, arith}
 use Rattle.word_table.specs.declared.word.Word.TheVariants.{Base, Swap, Key, Emit, Fetch, Execute, OnePlus, Plus, Dup, QDup, DropTop, OneMinus, ZeroEqual, Index}
-use Rattle.std.proofs.lemmas.List.{append-nil}
 use Rattle.word_table.specs.declared.word.Word.{Word}
 use Rattle.word_table.specs.Table.{cells_of, cells_from}
 use Rattle.forth_program.specs.Tree.{Node, Nodes, Literal, Plain, Call, Child, Text, If, Until, While, Again, Do, QDo, Case, Leave, Exit, Empty, Then, NoArm, Arm}
@@ -17,11 +16,11 @@ use Rattle.j1_simulator.specs.Step.{By}
 use Rattle.j1_simulator.specs.Run.{open_run}
 use Rattle.forth_program.specs.declared.item.TextKind.TheVariants as text
 use Rattle.word_laws.specs.Numbers.{number_cells}
-use Rattle.code_layout.specs.Layout.{Routine, routine_of, word_falls_through, word_size, word_cells, falls_through, reaches_end, cell_if, nodes_cells, execute_cells, abort_cells, place_of, header, laid_out}
+use Rattle.code_layout.specs.Layout.{Routine, routine_of, word_falls_through, word_size, word_cells, reaches_end, cell_if, nodes_cells, execute_cells, abort_cells, place_of, header, laid_out}
 use Rattle.code_layout.specs.Built.{IsBuilt}
-use Rattle.code_layout.specs.Stacks.{entries_height, peak_of, back_of, DepthFits}
+use Rattle.forth_program.specs.Heights.{entries_height, peak_of, back_of, DepthFits, GoesWell}
 use Rattle.code_layout.specs.Library.{IsLibrary, TakesNoMore, BodyMeans}
-use Rattle.code_layout.specs.Agreement.{GoesWell, DoesAsMuch, ImagesAgree}
+use Rattle.code_layout.specs.Agreement.{DoesAsMuch, ImagesAgree}
 
 -- a program with these definitions, of which the last is MAIN
 abbrev program : List Nodes → ℕ → ℕ → SourceProgram

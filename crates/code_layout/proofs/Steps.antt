@@ -17,12 +17,13 @@ use Rattle.forth_program.specs.Step.{IsWord, before, word_step, called, on_flag}
 use Rattle.forth_program.specs.Price.{word_price}
 use Rattle.word_laws.specs.Rings.{OpenConfiguration, BeforeEach}
 use Rattle.word_laws.specs.Bounds.{StaysWithin}
-use Rattle.word_laws.specs.Cells.{AreCells, AreEntries, IsWorld}
+use Rattle.forth_program.specs.Cells.{AreCells, AreEntries, IsWorld}
 use Rattle.word_laws.specs.Control.{Holds, halt_cells}
 use Rattle.word_laws.specs.Numbers.{number_cells, NumberStands}
 use Rattle.word_laws.specs.Standing.{data_places, return_places, standing_as, machine_end, EndedIn, HasCome, StandIn}
-use Rattle.word_laws.specs.Words.{stands_plain, return_need, CellsApply, lacks}
-use Rattle.code_layout.specs.Stacks.{DepthFits}
+use Rattle.word_laws.specs.Words.{stands_plain, return_need, CellsApply}
+use Rattle.forth_program.specs.Run.{lacks}
+use Rattle.forth_program.specs.Heights.{DepthFits}
 use Rattle.code_layout.proofs.Work.{ahead, steps_left, unfinished, CallStands, Stands, Loops, loops_before, ahead_bound, ends_at_return, Called, Frames, Meets}
 use Rattle.code_layout.proofs.Machine.{Laws, Runs, narrower, wider, runs_then, runs_one}
 use Rattle.code_layout.proofs.Phrases.{word_ready, word_bounded, word_comes}

@@ -1,26 +1,25 @@
 -- One word step: the three string words.
-use Rattle.std.proofs.Common.{◌≡◌, ℕ, zero, suc, ◌+◌, ◌*◌, ◌/◌, ◌<◌, ◌≤◌, Bool, List, [], ◌∷◌, ◌++◌, length, Option, refl, subst, arith}
+use Rattle.std.proofs.Common.{◌≡◌, ℕ, zero, suc, ◌+◌, ◌*◌, ◌/◌, ◌<◌, ◌≤◌, Bool, List, [], ◌∷◌, length, Option, refl, subst, arith}
 use Rattle.word_table.specs.declared.word.Word.TheVariants.{TypeOut}
 use Rattle.word_table.specs.Table.{entry_of}
 use Rattle.j1_simulator.specs.Effect.{following}
-use Rattle.j1_simulator.specs.OpenMachine.{rest}
 use Rattle.forth_program.specs.declared.item.TextKind.{TextKind}
 use Rattle.forth_program.specs.declared.item.TextKind.TheVariants as text
-use Rattle.forth_program.specs.State.{Entry, Cell, Work, Frame, World, State, Reply, Gives, Stops, Goes}
+use Rattle.forth_program.specs.State.{Entry, Work, Frame, World, State, Reply, Gives, Stops, Goes}
 use Rattle.forth_program.specs.Program.{SourceProgram}
 use Rattle.forth_program.specs.Step.{on_cells, text_step, called}
 use Rattle.forth_program.specs.Tail.{ends_body}
 use Rattle.forth_program.specs.Meaning.{meaning}
 use Rattle.forth_program.specs.Price.{text_price}
 use Rattle.word_laws.specs.Rings.{OpenConfiguration}
-use Rattle.word_laws.specs.Cells.{AreCells, AreEntries, IsWorld}
+use Rattle.forth_program.specs.Cells.{AreCells, AreEntries, IsWorld}
 use Rattle.word_laws.specs.Numbers.{number_cells}
 use Rattle.word_laws.specs.Standing.{return_places, standing_as, StandIn}
-use Rattle.code_layout.specs.Stacks.{text_peak, text_back}
+use Rattle.forth_program.specs.Heights.{text_peak, text_back}
 use Rattle.code_layout.proofs.Machine.{Laws, Runs, runs_then}
 use Rattle.code_layout.proofs.Routines.{abort_reply, abort_price}
 use Rattle.code_layout.proofs.Work.{ahead, unfinished, CallStands, Stands, TextStands, Loops, Frames}
-use Rattle.code_layout.proofs.Steps.{Comes, Follows, AllStand, comes, follows_after, call_follows, number_short, number_one, number_runs}
+use Rattle.code_layout.proofs.Steps.{Follows, AllStand, comes, follows_after, call_follows, number_one, number_runs}
 use Rattle.code_layout.proofs.LibrarySteps.{answered}
 
 -- the cells that a word takes play no part in what it leaves

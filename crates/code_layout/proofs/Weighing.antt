@@ -1,10 +1,10 @@
 -- The code of a program has no more cells than its weight, beside its library and the code of its tokens.
-use Rattle.std.proofs.Common.{◌≡◌, ℕ, ◌+◌, ◌-◌, ◌<◌, ◌≤◌, ◌++◌, nat_le, nat_lt, ◌&&◌, IsTrue, Bool, true, false, List, [], ◌∷◌, length, refl, ap, arith, length-append}
+use Rattle.std.proofs.Common.{◌≡◌, ℕ, ◌+◌, ◌-◌, ◌≤◌, ◌++◌, nat_le, nat_lt, ◌&&◌, IsTrue, Bool, true, false, List, [], ◌∷◌, length, refl, ap, arith, length-append}
 use Rattle.std.specs.Prelude.{if◌then◌else◌}
 use Rattle.std.proofs.lemmas.Bool.Decides.{nat_tests}
 use Rattle.word_table.specs.declared.word.Word.{Word}
 use Rattle.word_table.specs.declared.word.Word.TheVariants.{Dup}
-use Rattle.word_table.specs.Table.{entry_of, cells_of}
+use Rattle.word_table.specs.Table.{entry_of}
 use Rattle.forth_program.specs.Tree.{Node, Nodes, Arms, Literal, Plain, Call, Child, Text, If, Until, While, Again, Do, QDo, Case, Leave, Exit, Empty, Then, NoArm, Arm}
 use Rattle.forth_program.specs.Tail.{is_tail}
 use Rattle.forth_program.specs.Weight.{text_weight, else_weight, turn_weight, node_weight, weight, arms_weight, bodies_weight}
@@ -14,8 +14,9 @@ use Rattle.forth_program.specs.declared.item.TextKind.TheVariants as text
 use Rattle.forth_program.specs.Form.{everywhere, inside, in_arms}
 use Rattle.std.specs.List.{list_all}
 use Rattle.code_layout.specs.Built.{text_is_laid_out, is_laid_out}
-use Rattle.code_layout.specs.Layout.{routine_of, type_routine, word_size, text_size, bodies_size, token_jumps, tokens_cells, execute_cells, abort_cells, library_place, execute_place, abort_place, first_place, tokens_place, turn_size, falls_through, reaches_end, size_if, else_size, node_size, size, arms_size, body_size, bodies_cells, place_of}
-use Rattle.code_layout.specs.Weights.{CodeIsLight}
+use Rattle.code_layout.specs.Layout.{routine_of, type_routine, word_size, word_token_size, text_size, bodies_size, token_jumps, tokens_cells, execute_cells, abort_cells, library_place, execute_place, abort_place, first_place, tokens_place, turn_size, falls_through, reaches_end, size_if, else_size, node_size, size, arms_size, bodies_cells, place_of}
+use Rattle.code_layout.specs.Weights.{CodeIsLight, ItemsAreLight, TokensAreLight}
+use Rattle.code_layout.specs.Numbering.{library_number}
 use Rattle.code_layout.proofs.Image.{bodies_size_is, jumps_length}
 use Rattle.code_layout.proofs.Placing.{tokens_size_is}
 use Rattle.code_layout.proofs.Machine.{both}
@@ -95,6 +96,19 @@ module _ (words count : ℕ) where
   bodies_light (body ∷ bodies) e =
       let a = both (everywhere laid body) (list_all (everywhere laid) bodies) e in
       omega (arith, light body true true a.0, if_light (reaches_end true true body), bodies_light bodies a.1)
+
+pub items_are_light : ItemsAreLight
+items_are_light words count node tail reached e f = node_light words count node tail reached e f
+
+token_test : (word : Word) → IsTrue (nat_le (1 + word_token_size (library_number word) word) (2 + (entry_of word).weight))
+token_test Dup = refl
+token_test word = refl
+
+pub tokens_are_light : TokensAreLight
+tokens_are_light words count (Literal value) e = omega (arith, number_light value)
+tokens_are_light words count (Plain word) e = let light = token_test word in grind (arith, nat_tests)
+tokens_are_light words count (Child definition address) e = omega (arith, number_light address)
+tokens_are_light words count node e = omega arith
 
 pub code_is_light : CodeIsLight
 code_is_light library p items =

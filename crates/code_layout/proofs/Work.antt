@@ -10,7 +10,7 @@ use Rattle.forth_program.specs.Tail.{is_tail, ends_body}
 use Rattle.forth_program.specs.Program.{SourceProgram, token_of}
 use Rattle.forth_program.specs.Form.{may_be_token}
 use Rattle.forth_program.specs.Step.{First, BodyEnd, IsLiteral, IsWord, IsCall, IsChild, IsText, IsIf, IsTrueEnd, IsUntil, IsWhile, IsRepeat, IsAgain, IsDo, IsQDo, IsTurn, IsOf, IsEndOf, IsEndCase, IsLeave, IsExit, before, first_in, first_among, first}
-use Rattle.word_laws.specs.Cells.{AreCells, AreEntries, IsWorld}
+use Rattle.forth_program.specs.Cells.{AreCells, AreEntries, IsWorld}
 use Rattle.word_laws.specs.Control.{Holds}
 use Rattle.word_laws.specs.Numbers.{number_cells}
 use Rattle.word_laws.specs.Standing.{return_places, counted, StandIn}
@@ -23,8 +23,8 @@ use Rattle.word_laws.specs.Rings.{OpenConfiguration}
 use Rattle.code_layout.proofs.Machine.{Runs}
 use Rattle.code_layout.proofs.Routines.{places_below, Stopped, IsRoutine, IsAborter}
 use Rattle.code_layout.specs.Layout.{do_cells, loop_cells, plus_loop_cells, out_cells, end_case_cells}
-use Rattle.code_layout.specs.Stacks.{entries_height, address_height, callers_height}
-use Rattle.code_layout.specs.Built.{node_tokens, tokens}
+use Rattle.forth_program.specs.Heights.{entries_height, address_height, callers_height}
+use Rattle.forth_program.specs.SourceTokens.{node_tokens, tokens_of}
 
 -- the tokens up to the first mark that takes instructions, which bound the word steps that take none
 abbrev pub ahead : List Work → ℕ
@@ -222,7 +222,7 @@ module _ (code : List ℕ) (place : ℕ → ℕ) (p : SourceProgram) where
     pub branch : Holds code test_end (Branch next)
     pub body_stands : AllPlaced out (following test_end) false body (λ e. e ≡ body_end)
     pub jump : Holds code body_end (Jump begin)
-    pub few : tokens test + tokens body ≤ p.source_tokens
+    pub few : tokens_of test + tokens_of body ≤ p.source_tokens
 
   -- work stands at a place, in a loop that is dropped at `out`. The ends of a true branch and of an arm are jumps, or a return where
   -- nothing but the end of the body is left
@@ -230,16 +230,16 @@ module _ (code : List ℕ) (place : ℕ → ℕ) (p : SourceProgram) where
   Stands out pc [] = Returns pc
   Stands out pc (Todo node ∷ w) = Placed out pc (ends_body w) node (λ q. Stands out q w) × (node_tokens node + ahead w ≤ p.source_tokens)
   Stands out pc (TrueEnd ∷ w) = (((next : ℕ) × Holds code pc (Jump next) × Stands out next w) ⊎ (Returns pc × (ends_body w ≡ true))) × (1 + ahead w ≤ p.source_tokens)
-  Stands out pc (UntilTest body ∷ w) = (begin : ℕ) × Holds code pc (Branch begin) × AllPlaced out begin false body (λ e. e ≡ pc) × Stands out (following pc) w × (tokens body ≤ p.source_tokens)
+  Stands out pc (UntilTest body ∷ w) = (begin : ℕ) × Holds code pc (Branch begin) × AllPlaced out begin false body (λ e. e ≡ pc) × Stands out (following pc) w × (tokens_of body ≤ p.source_tokens)
   Stands out pc (WhileTest test body ∷ w) = (begin : ℕ) × (body_end : ℕ) × (next : ℕ) × WhileStands out begin pc body_end next test body × Stands out next w
   Stands out pc (Repeat test body ∷ w) = (begin : ℕ) × (test_end : ℕ) × (next : ℕ) × WhileStands out begin test_end pc next test body × Stands out next w
-  Stands out pc (BeginAgain body ∷ w) = (begin : ℕ) × Holds code pc (Jump begin) × AllPlaced out begin false body (λ e. e ≡ pc) × (tokens body ≤ p.source_tokens)
+  Stands out pc (BeginAgain body ∷ w) = (begin : ℕ) × Holds code pc (Jump begin) × AllPlaced out begin false body (λ e. e ≡ pc) × (tokens_of body ≤ p.source_tokens)
   Stands out pc (OfTest body others rest ∷ w) =
       (body_at : ℕ) × (other_at : ℕ) × OfStands pc body_at other_at × AllPlaced out body_at (ends_body w) body (λ e. (end_at : ℕ) × Holds code e (Jump end_at) × Stands out end_at w)
-      × Placed out other_at (ends_body w) (Case others rest) (λ q. Stands out q w) × (tokens body + 1 + ahead w ≤ p.source_tokens) × (node_tokens (Case others rest) + ahead w ≤ p.source_tokens)
+      × Placed out other_at (ends_body w) (Case others rest) (λ q. Stands out q w) × (tokens_of body + 1 + ahead w ≤ p.source_tokens) × (node_tokens (Case others rest) + ahead w ≤ p.source_tokens)
   Stands out pc (EndOf ∷ w) = (((next : ℕ) × Holds code pc (Jump next) × Stands out next w) ⊎ (Returns pc × (ends_body w ≡ true))) × (1 + ahead w ≤ p.source_tokens)
   Stands out pc (EndCase ∷ w) = (next : ℕ) × StandIn code pc end_case_cells next × Stands out next w
-  Stands out pc (Turn body plus ∷ w) = (out_at : ℕ) × (body_at : ℕ) × (out ≡ Some out_at) × AllPlaced out body_at false body (λ e. e ≡ pc) × TurnStands plus pc body_at out_at × (tokens body ≤ p.source_tokens)
+  Stands out pc (Turn body plus ∷ w) = (out_at : ℕ) × (body_at : ℕ) × (out ≡ Some out_at) × AllPlaced out body_at false body (λ e. e ≡ pc) × TurnStands plus pc body_at out_at × (tokens_of body ≤ p.source_tokens)
 
   -- what drops the innermost loop stands at `out`, and then what follows it; outside of loops there is none
   abbrev pub Loops : Option ℕ → List Work → Type 0
@@ -272,7 +272,7 @@ module _ (code : List ℕ) (place : ℕ → ℕ) (p : SourceProgram) where
   ahead_bound out pc (EndOf ∷ w) h = h.1
   ahead_bound out pc (EndCase ∷ w) h = omega arith
 
-  pub ahead_before : (nodes : Nodes) (w : List Work) → ahead (before nodes w) ≡ tokens nodes + ahead w
+  pub ahead_before : (nodes : Nodes) (w : List Work) → ahead (before nodes w) ≡ tokens_of nodes + ahead w
   ahead_before Empty w = omega arith
   ahead_before (Then node rest) w = omega (arith, ahead_before rest w)
 
@@ -282,7 +282,7 @@ module _ (code : List ℕ) (place : ℕ → ℕ) (p : SourceProgram) where
   tail_before (Then node rest) w = refl
 
   -- items in front of work
-  pub stands_before : (nodes : Nodes) (out : Option ℕ) (pc : ℕ) (w : List Work) (K : ℕ → Type 0) → ((q : ℕ) → K q → Stands out q w) → AllPlaced out pc (ends_body w) nodes K → tokens nodes + ahead w ≤ p.source_tokens → Stands out pc (before nodes w)
+  pub stands_before : (nodes : Nodes) (out : Option ℕ) (pc : ℕ) (w : List Work) (K : ℕ → Type 0) → ((q : ℕ) → K q → Stands out q w) → AllPlaced out pc (ends_body w) nodes K → tokens_of nodes + ahead w ≤ p.source_tokens → Stands out pc (before nodes w)
   stands_before Empty out pc w K f h n = f pc h
   stands_before (Then node rest) out pc w K f h n = (
     subst (λ tail. Placed out pc tail node (λ q. Stands out q (before rest w))) (tail_before rest w)
@@ -291,7 +291,7 @@ module _ (code : List ℕ) (place : ℕ → ℕ) (p : SourceProgram) where
   )
 
   -- the same, up to a known place
-  pub stands_to : (nodes : Nodes) (out : Option ℕ) (pc e : ℕ) (w : List Work) → AllPlaced out pc (ends_body w) nodes (λ x. x ≡ e) → Stands out e w → tokens nodes + ahead w ≤ p.source_tokens → Stands out pc (before nodes w)
+  pub stands_to : (nodes : Nodes) (out : Option ℕ) (pc e : ℕ) (w : List Work) → AllPlaced out pc (ends_body w) nodes (λ x. x ≡ e) → Stands out e w → tokens_of nodes + ahead w ≤ p.source_tokens → Stands out pc (before nodes w)
   stands_to nodes out pc e w h s n = stands_before nodes out pc w (λ x. x ≡ e) (λ x q. subst (λ y. Stands out y w) (sym q) s) h n
 
   -- work that does no more than end its body stands at a return
@@ -366,8 +366,8 @@ module _ (code : List ℕ) (place : ℕ → ℕ) (p : SourceProgram) where
         let o = opens_all tests out pc h.0 (IsOf body others rest w) (OfTest body others rest ∷ w) h.3 mark mark l l (omega arith) (omega arith) in
         record { out = o.out; stands = o.stands; loops = o.loops; fewer = omega (arith, o.fewer) }
 
-    opens_all : (nodes : Nodes) (out : Option ℕ) (pc e : ℕ) (f : First) (w : List Work) → AllPlaced out pc (ends_body w) nodes (λ x. x ≡ e) → Stands out e (back f) → Stands out e w → Loops out (back f) → Loops out w → tokens nodes + ahead w ≤ p.source_tokens → ahead (back f) ≤ 0
-        → Opens pc (first_among nodes f w) (tokens nodes + ahead w)
+    opens_all : (nodes : Nodes) (out : Option ℕ) (pc e : ℕ) (f : First) (w : List Work) → AllPlaced out pc (ends_body w) nodes (λ x. x ≡ e) → Stands out e (back f) → Stands out e w → Loops out (back f) → Loops out w → tokens_of nodes + ahead w ≤ p.source_tokens → ahead (back f) ≤ 0
+        → Opens pc (first_among nodes f w) (tokens_of nodes + ahead w)
     opens_all Empty out pc e f w h b s m l n z = record { out = out; stands = subst (λ x. Stands out x (back f)) (sym h) b; loops = m; fewer = omega arith }
     opens_all (Then node rest) out pc e f w h b s m l n z =
         let o = opens_node node out pc (before rest w)

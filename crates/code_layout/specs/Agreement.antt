@@ -1,23 +1,21 @@
 -- What the image of a program does on the open machine, and what its source means.
-use Rattle.std.specs.Prelude.{◌≡◌, ◌≢◌, ℕ, ◌+◌, ◌*◌, ◌/◌, ◌<◌, ◌≤◌, false, List, ◌++◌, Option, Some, None}
+use Rattle.std.specs.Prelude.{◌≡◌, ◌≢◌, ℕ, ◌+◌, ◌*◌, ◌/◌, ◌<◌, ◌≤◌, List, ◌++◌, Option, Some, None}
 use Rattle.std.specs.List.{All}
 use Rattle.cell_math.specs.Bytes.{filled}
 use Rattle.j1_simulator.specs.Step.{Stop, Missing}
 use Rattle.j1_simulator.specs.Run.{begun, open_start, open_run, IsPrefixOf}
-use Rattle.forth_program.specs.State.{State, End, Outcome, Goes, Ends}
+use Rattle.forth_program.specs.State.{End, Outcome, Goes, Ends}
 use Rattle.forth_program.specs.Program.{SourceProgram}
-use Rattle.forth_program.specs.Step.{first}
 use Rattle.forth_program.specs.Run.{source_run, world_of, end_of}
 use Rattle.forth_program.specs.Price.{price}
 use Rattle.word_laws.specs.Rings.{OpenConfiguration, BeforeEach}
 use Rattle.word_laws.specs.Bounds.{StaysWithin}
 use Rattle.word_laws.specs.Standing.{machine_end}
-use Rattle.word_laws.specs.Words.{lacks}
 use Rattle.forth_program.specs.Tree.{Nodes}
 use Rattle.code_layout.specs.Layout.{laid_out}
 use Rattle.code_layout.specs.Built.{IsBuilt}
 use Rattle.code_layout.specs.Library.{IsLibrary, LibraryMeans}
-use Rattle.code_layout.specs.Stacks.{DepthFits, StacksFit}
+use Rattle.forth_program.specs.Heights.{StacksFit, GoesWell}
 
 abbrev pub AreBytes : List ℕ → Type 0
 AreBytes bytes = All (λ byte. byte < 256) bytes
@@ -25,11 +23,6 @@ AreBytes bytes = All (λ byte. byte < 256) bytes
 -- the cells of memory before data space
 abbrev pub code_of : List Nodes → SourceProgram → List ℕ
 code_of library p = filled (p.data_start / 2) (laid_out library p).cells
-
--- within k word steps the source lacks no cells and finds its return entries, and DEPTH counts at most 31 cells
-pub record GoesWell (p : SourceProgram) (input : List ℕ) (k : ℕ) : Type 0 where
-  pub lacks_nothing : lacks (source_run p input k) ≡ false
-  pub depth_fits : (j : ℕ) (s : State) → j < k → source_run p input j ≡ Goes s → DepthFits (first s.work) s.cells
 
 -- the machine's end for where a source is
 abbrev pub stop_of : Outcome → Option Stop

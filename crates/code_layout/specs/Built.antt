@@ -1,11 +1,12 @@
--- The programs whose images are built so far.
-use Rattle.std.specs.Prelude.{◌≡◌, ℕ, ◌+◌, ◌/◌, ◌<◌, ◌≤◌, nat_lt, Bool, true, false, ◌&&◌, List, [], ◌∷◌, length, Option, Some, None}
+-- The programs that have an image.
+use Rattle.std.specs.Prelude.{◌≡◌, ℕ, ◌/◌, ◌<◌, ◌≤◌, nat_lt, Bool, true, false, ◌&&◌, List, length, Option, Some, None}
 use Rattle.std.specs.List.{list_all}
 use Rattle.word_table.specs.declared.word.Word.{Word}
 use Rattle.forth_program.specs.declared.item.TextKind.{TextKind}
 use Rattle.forth_program.specs.declared.item.TextKind.TheVariants as text
-use Rattle.forth_program.specs.Tree.{Node, Nodes, Arms, Literal, Plain, Call, Child, Text, If, Until, While, Again, Do, QDo, Case, Empty, Then, NoArm, Arm}
+use Rattle.forth_program.specs.Tree.{Node, Nodes, Literal, Plain, Call, Child, Text}
 use Rattle.forth_program.specs.Program.{SourceProgram}
+use Rattle.forth_program.specs.SourceTokens.{all_tokens}
 use Rattle.forth_program.specs.Form.{IsDataStart, everywhere, leaves_fit, may_be_token}
 use Rattle.word_laws.specs.Words.{stands_plain}
 use Rattle.code_layout.specs.Layout.{Routine, Library, Executing, routine_of, laid_out}
@@ -40,31 +41,6 @@ token_is_laid_out words count (Plain word) = may_be_token (Plain word) && is_lai
 token_is_laid_out words count (Call definition) = nat_lt definition count
 token_is_laid_out words count (Child definition address) = nat_lt definition count && nat_lt address 0x8000
 token_is_laid_out words count node = false
-
--- the tokens of a source that items stand for, those of structures among them
-abbrev mutual
-  pub node_tokens : Node → ℕ
-  node_tokens (If first second) = tokens first + tokens second + 2
-  node_tokens (Until body) = tokens body + 2
-  node_tokens (While test body) = tokens test + tokens body + 3
-  node_tokens (Again body) = tokens body + 2
-  node_tokens (Do body plus) = tokens body + 2
-  node_tokens (QDo body plus) = tokens body + 2
-  node_tokens (Case arms rest) = arms_tokens arms + tokens rest + 2
-  node_tokens node = 1
-
-  pub tokens : Nodes → ℕ
-  tokens Empty = 0
-  tokens (Then node rest) = node_tokens node + tokens rest
-
-  pub arms_tokens : Arms → ℕ
-  arms_tokens NoArm = 0
-  arms_tokens (Arm tests body others) = tokens tests + tokens body + 2 + arms_tokens others
-
--- those of definitions, each with `:`, its name and `;`
-abbrev pub all_tokens : List Nodes → ℕ
-all_tokens [] = 0
-all_tokens (body ∷ bodies) = tokens body + 3 + all_tokens bodies
 
 pub record IsBuilt (library : List Nodes) (p : SourceProgram) : Type 0 where
   pub has_main : p.main_body < length p.bodies

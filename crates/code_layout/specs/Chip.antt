@@ -11,8 +11,8 @@ use Rattle.forth_program.specs.Tree.{Nodes}
 use Rattle.code_layout.specs.Layout.{laid_out}
 use Rattle.code_layout.specs.Built.{IsBuilt}
 use Rattle.code_layout.specs.Library.{IsLibrary, LibraryMeans}
-use Rattle.code_layout.specs.Stacks.{StacksFit}
-use Rattle.code_layout.specs.Agreement.{AreBytes, GoesWell, word_steps}
+use Rattle.forth_program.specs.Heights.{StacksFit, GoesWell}
+use Rattle.code_layout.specs.Agreement.{AreBytes, word_steps}
 
 -- a counter stands between 0 and a limit
 abbrev pub DepthStaysWithin : ℕ → ℤ → Type 0

@@ -1,12 +1,12 @@
 -- In an image no call stands before a return, be it directly or with no more than a jump to it between: last calls are jumps.
-use Rattle.std.specs.Prelude.{◌≡◌, ℕ, suc, ◌<◌, ◌⊎◌, Bool, true, false, ◌&&◌, List, [], ◌∷◌, length, slice_index}
+use Rattle.std.specs.Prelude.{◌≡◌, ℕ, suc, ◌<◌, ◌⊎◌, Bool, true, false, ◌&&◌, List, length, slice_index}
 use Rattle.std.specs.List.{list_all}
 use Rattle.j1_table.specs.declared.instr.Instr.TheVariants.{Jump, Branch, Call as CallTo}
 use Rattle.j1_table.specs.Instruction.{decoded}
 use Rattle.word_table.specs.declared.word.Word.TheVariants.{Chars}
 use Rattle.forth_program.specs.Tree.{Node, Nodes, Plain, Case, Exit, Then, NoArm, Arm}
 use Rattle.forth_program.specs.Program.{SourceProgram}
-use Rattle.forth_program.specs.Form.{everywhere, has_id_below}
+use Rattle.forth_program.specs.Form.{everywhere, calls_go_back}
 use Rattle.code_layout.specs.Layout.{laid_out}
 use Rattle.code_layout.specs.Built.{IsBuilt}
 use Rattle.code_layout.specs.Library.{IsLibrary}
@@ -36,11 +36,6 @@ begins_well node = true
 
 abbrev pub all_begin_well : SourceProgram → Bool
 all_begin_well p = list_all (everywhere begins_well) p.bodies && list_all begins_well p.tokens
-
--- each call leads to the definition in which it stands, or to one before it; these definitions are those from a number on
-abbrev pub calls_go_back : ℕ → List Nodes → Bool
-calls_go_back definition [] = true
-calls_go_back definition (body ∷ bodies) = everywhere (has_id_below (suc definition)) body && calls_go_back (suc definition) bodies
 
 abbrev pub LastCallsAreJumps : Type 0
 LastCallsAreJumps = (library : List Nodes) (p : SourceProgram) → IsLibrary library → list_all (everywhere begins_well) library ≡ true → IsBuilt library p → calls_go_back 0 p.bodies ≡ true → all_begin_well p ≡ true → LastCalls (laid_out library p).cells

@@ -3,8 +3,8 @@
 -- follows it.
 use Rattle.std.specs.Prelude.{ℕ, zero, suc, ◌+◌, Bool, true, false, not, ◌||◌, List, [], ◌∷◌, ◌++◌, length, Option, Some, None}
 use Rattle.word_table.specs.declared.word.Word.{Word}
-use Rattle.word_table.specs.declared.word.Word.TheVariants.{Execute}
-use Rattle.word_table.specs.Table.{cells_of, cells_from}
+use Rattle.word_table.specs.declared.word.Word.TheVariants.{And, DropTop, Dup, Equal, Execute, Invert, OnePlus, Over, Plus, RFrom, Swap, ToR, Xor, ZeroLess}
+use Rattle.word_table.specs.Table.{cells_from, cells_of}
 use Rattle.forth_program.specs.declared.item.TextKind.{TextKind}
 use Rattle.forth_program.specs.declared.item.TextKind.TheVariants as text
 use Rattle.forth_program.specs.Tree.{Node, Nodes, Arms, Literal, Plain, Call, Child, Text, If, Until, While, Again, Do, QDo, Case, Leave, Exit, Empty, Then, NoArm, Arm}
@@ -30,24 +30,28 @@ call_to target = 0x4000 + target
 abbrev pub return_cell : ℕ
 return_cell = 0x700C
 
+-- the cells of words, one behind the other
+abbrev pub phrase : List Word → List ℕ
+phrase [] = []
+phrase (word ∷ words) = cells_of word ++ phrase words
+
 -- ---- loops, which keep two return cells: the limit, and above it index minus limit
 
--- DO takes the limit and the start: SWAP DUP >R INVERT + 1+ >R
+-- DO takes the limit and the start
 abbrev pub do_cells : List ℕ
-do_cells = 0x6180 ∷ 0x6081 ∷ 0x6147 ∷ 0x6600 ∷ 0x6203 ∷ 0x8001 ∷ 0x6203 ∷ 0x6147 ∷ []
+do_cells = phrase (Swap ∷ Dup ∷ ToR ∷ Invert ∷ Plus ∷ OnePlus ∷ ToR ∷ [])
 
--- LOOP adds 1, and leaves 0 where the limit is met: R> 1+ DUP >R
+-- LOOP adds 1, and leaves 0 where the limit is met
 abbrev pub loop_cells : List ℕ
-loop_cells = 0x6B8D ∷ 0x8001 ∷ 0x6203 ∷ 0x6081 ∷ 0x6147 ∷ []
+loop_cells = phrase (RFrom ∷ OnePlus ∷ Dup ∷ ToR ∷ [])
 
--- +LOOP adds the step, and leaves 0 where the boundary at the limit is not crossed:
--- R> OVER OVER XOR >R SWAP OVER + SWAP OVER XOR R> AND 0< SWAP >R
+-- +LOOP adds the step, and leaves 0 where the boundary at the limit is not crossed
 abbrev pub plus_loop_cells : List ℕ
-plus_loop_cells = 0x6B8D ∷ 0x6181 ∷ 0x6181 ∷ 0x6503 ∷ 0x6147 ∷ 0x6180 ∷ 0x6181 ∷ 0x6203 ∷ 0x6180 ∷ 0x6181 ∷ 0x6503 ∷ 0x6B8D ∷ 0x6303 ∷ 0x8000 ∷ 0x6803 ∷ 0x6180 ∷ 0x6147 ∷ []
+plus_loop_cells = phrase (RFrom ∷ Over ∷ Over ∷ Xor ∷ ToR ∷ Swap ∷ Over ∷ Plus ∷ Swap ∷ Over ∷ Xor ∷ RFrom ∷ And ∷ ZeroLess ∷ Swap ∷ ToR ∷ [])
 
--- where the loop is over its two cells are dropped: R> DROP R> DROP
+-- where the loop is over its two cells are dropped
 abbrev pub out_cells : List ℕ
-out_cells = 0x6B8D ∷ 0x6103 ∷ 0x6B8D ∷ 0x6103 ∷ []
+out_cells = phrase (RFrom ∷ DropTop ∷ RFrom ∷ DropTop ∷ [])
 
 -- the end of a turn, by LOOP or by +LOOP, with the places of the body and of what drops the loop
 abbrev pub turn_cells : Bool → ℕ → ℕ → List ℕ
@@ -58,19 +62,19 @@ abbrev pub turn_size : Bool → ℕ
 turn_size false = 7
 turn_size true = 18
 
--- ?DO leaves the loop out where limit and start are equal: OVER OVER =, and then DROP DROP and a jump over the loop
+-- ?DO leaves the loop out where limit and start are equal, by a jump over it
 abbrev pub q_do_cells : ℕ → ℕ → List ℕ
-q_do_cells loop_at end_at = 0x6181 ∷ 0x6181 ∷ 0x6703 ∷ branch_to loop_at ∷ 0x6103 ∷ 0x6103 ∷ jump_to end_at ∷ []
+q_do_cells loop_at end_at = phrase (Over ∷ Over ∷ Equal ∷ []) ++ branch_to loop_at ∷ (phrase (DropTop ∷ DropTop ∷ []) ++ jump_to end_at ∷ [])
 
 -- ---- the arms of a CASE
 
--- OF goes on to the other arms where its cell is not that of the case, and else drops that: OVER =, and then DROP
+-- OF goes on to the other arms where its cell is not that of the case, and else drops that
 abbrev pub of_cells : ℕ → List ℕ
-of_cells other_at = 0x6181 ∷ 0x6703 ∷ branch_to other_at ∷ 0x6103 ∷ []
+of_cells other_at = phrase (Over ∷ Equal ∷ []) ++ branch_to other_at ∷ phrase (DropTop ∷ [])
 
 -- ENDCASE: DROP
 abbrev pub end_case_cells : List ℕ
-end_case_cells = 0x6103 ∷ []
+end_case_cells = phrase (DropTop ∷ [])
 
 -- ---- what code calls: definitions of the program, library words by their numbers, and the code of EXECUTE and of ABORT"
 

@@ -1,7 +1,6 @@
 pub mod Numbering
 pub mod Layout
 pub mod Built
-pub mod Stacks
 pub mod Library
 pub mod Agreement
 pub mod Chip

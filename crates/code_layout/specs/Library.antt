@@ -12,10 +12,10 @@ use Rattle.forth_program.specs.Meaning.{meaning}
 use Rattle.forth_program.specs.Step.{before, first, on_cells}
 use Rattle.forth_program.specs.Run.{steps}
 use Rattle.forth_program.specs.Price.{word_price, spent}
-use Rattle.word_laws.specs.Cells.{AreCells, IsWorld}
+use Rattle.forth_program.specs.Cells.{AreCells, IsWorld}
 use Rattle.code_layout.specs.Numbering.{library_number}
 use Rattle.code_layout.specs.Built.{is_laid_out}
-use Rattle.code_layout.specs.Stacks.{entries_height, peak_of, back_of}
+use Rattle.forth_program.specs.Heights.{entries_height, peak_of, back_of}
 
 -- an item that keeps to its frame and does not count cells, of those that library bodies have: no AGAIN, ?DO and CASE
 abbrev pub is_own : Node → Bool

@@ -6,6 +6,7 @@ ghost use Rattle.word_table.specs.Table.{cells_from};
 ghost use Rattle.word_laws.specs.Numbers.{number_cells};
 ghost use Rattle.code_layout.specs.Layout.{jump_to, branch_to, call_to, call_cell as cell_of_call, return_cell, cell_if, do_cells as cells_of_do, q_do_cells, of_cells, end_case_cells, plus_loop_cells, turn_cells, out_cells, execute_cells, abort_cells};
 
+use crate::words::add_phrase;
 use std::alloc::AllocError;
 use word_table::{Word, plain_cells};
 
@@ -94,48 +95,55 @@ pub(crate) fn add_word(code: &mut Vec<u16>, word: Word, data_start: u16) -> Resu
         Word::Base => code.extend_from_slice(&[0x8000 + data_start]),
         Word::Here => code.extend_from_slice(&[0x8000 + (data_start + 4), 0x6C00]),
         Word::Decimal => code.extend_from_slice(&[0x800A, 0x8000 + data_start, 0x6023, 0x6103]),
+        Word::Hex => code.extend_from_slice(&[0x8010, 0x8000 + data_start, 0x6023, 0x6103]),
         _ => code.extend_from_slice(plain_cells(word)),
     }
 }
 
-/// `DO`: SWAP DUP >R INVERT + 1+ >R.
+/// `DO` keeps the limit, and above it index minus limit.
 pub(crate) fn add_do(code: &mut Vec<u16>) -> Result<(), AllocError>
     ensures { OnOk result (code.new.items ≡ code.old.items ++ cells_of_do) }
 {
-    code.extend_from_slice(&[
-        0x6180, 0x6081, 0x6147, 0x6600, 0x6203, 0x8001, 0x6203, 0x6147,
-    ])
+    add_phrase(
+        code,
+        &[
+            Word::Swap,
+            Word::Dup,
+            Word::ToR,
+            Word::Invert,
+            Word::Plus,
+            Word::OnePlus,
+            Word::ToR,
+        ],
+    )
 }
 
-/// `?DO`: OVER OVER =, and where that is 0 the loop is begun; else DROP DROP and a jump over the loop.
+/// `?DO`: where limit and start differ the loop is begun, else it is jumped over.
 pub(crate) fn add_skip(code: &mut Vec<u16>, loop_at: u16, end_at: u16) -> Result<(), AllocError>
     requires { loop_at < 8192 }
     ensures { OnOk result (code.new.items ≡ code.old.items ++ q_do_cells loop_at end_at) }
 {
-    code.extend_from_slice(&[
-        0x6181,
-        0x6181,
-        0x6703,
-        BRANCH + loop_at,
-        0x6103,
-        0x6103,
-        end_at,
-    ])
+    add_phrase(code, &[Word::Over, Word::Over, Word::Equal])?;
+    add_branch(code, loop_at)?;
+    add_phrase(code, &[Word::DropTop, Word::DropTop])?;
+    add_jump(code, end_at)
 }
 
-/// `OF`: OVER =, and where that is 0 the other arms follow; else DROP.
+/// `OF`: where its cell is not that of the case the other arms follow, else that is dropped.
 pub(crate) fn add_of(code: &mut Vec<u16>, other_at: u16) -> Result<(), AllocError>
     requires { other_at < 8192 }
     ensures { OnOk result (code.new.items ≡ code.old.items ++ of_cells other_at) }
 {
-    code.extend_from_slice(&[0x6181, 0x6703, BRANCH + other_at, 0x6103])
+    add_phrase(code, &[Word::Over, Word::Equal])?;
+    add_branch(code, other_at)?;
+    add_drop(code)
 }
 
-/// `ENDCASE`: DROP.
-pub(crate) fn add_end_case(code: &mut Vec<u16>) -> Result<(), AllocError>
+/// Drops the cell of a case: `ENDCASE`, and the end of `OF`.
+pub(crate) fn add_drop(code: &mut Vec<u16>) -> Result<(), AllocError>
     ensures { OnOk result (code.new.items ≡ code.old.items ++ end_case_cells) }
 {
-    code.extend_from_slice(&[0x6103])
+    add_phrase(code, &[Word::DropTop])
 }
 
 /// A jump, where code leads to it.
@@ -149,47 +157,43 @@ pub(crate) fn add_jump_if(code: &mut Vec<u16>, reached: bool, target: u16) -> Re
     }
 }
 
-// LOOP: R> 1+ DUP >R, and then the loop is over where 0 is left.
+// `LOOP` adds 1, and the loop is over where 0 is left.
 fn add_loop(code: &mut Vec<u16>, body_at: u16, out_at: u16) -> Result<(), AllocError>
     requires { out_at < 8192 }
     ensures { OnOk result (code.new.items ≡ code.old.items ++ turn_cells false body_at out_at) }
 {
-    code.extend_from_slice(&[
-        0x6B8D,
-        0x8001,
-        0x6203,
-        0x6081,
-        0x6147,
-        BRANCH + out_at,
-        body_at,
-    ])
+    add_phrase(code, &[Word::RFrom, Word::OnePlus, Word::Dup, Word::ToR])?;
+    add_branch(code, out_at)?;
+    add_jump(code, body_at)
 }
 
-// +LOOP: R> OVER OVER XOR >R SWAP OVER + SWAP OVER XOR R> AND 0< SWAP >R, and then it goes on where 0 is left.
+// `+LOOP` adds the step, and goes on where the boundary at the limit is not crossed.
 fn add_plus_loop(code: &mut Vec<u16>, body_at: u16) -> Result<(), AllocError>
     requires { body_at < 8192 }
     ensures { OnOk result (code.new.items ≡ code.old.items ++ plus_loop_cells ++ branch_to body_at ∷ []) }
 {
-    code.extend_from_slice(&[
-        0x6B8D,
-        0x6181,
-        0x6181,
-        0x6503,
-        0x6147,
-        0x6180,
-        0x6181,
-        0x6203,
-        0x6180,
-        0x6181,
-        0x6503,
-        0x6B8D,
-        0x6303,
-        0x8000,
-        0x6803,
-        0x6180,
-        0x6147,
-        BRANCH + body_at,
-    ])
+    add_phrase(
+        code,
+        &[
+            Word::RFrom,
+            Word::Over,
+            Word::Over,
+            Word::Xor,
+            Word::ToR,
+            Word::Swap,
+            Word::Over,
+            Word::Plus,
+            Word::Swap,
+            Word::Over,
+            Word::Xor,
+            Word::RFrom,
+            Word::And,
+            Word::ZeroLess,
+            Word::Swap,
+            Word::ToR,
+        ],
+    )?;
+    add_branch(code, body_at)
 }
 
 /// The end of a turn, by `LOOP` or with true by `+LOOP`.
@@ -210,11 +214,14 @@ pub(crate) fn add_turn(
     }
 }
 
-/// Where a loop is over its two cells are dropped: R> DROP R> DROP.
+/// Where a loop is over its two return cells are dropped.
 pub(crate) fn add_out(code: &mut Vec<u16>) -> Result<(), AllocError>
     ensures { OnOk result (code.new.items ≡ code.old.items ++ out_cells) }
 {
-    code.extend_from_slice(&[0x6B8D, 0x6103, 0x6B8D, 0x6103])
+    add_phrase(
+        code,
+        &[Word::RFrom, Word::DropTop, Word::RFrom, Word::DropTop],
+    )
 }
 
 /// `EXECUTE`: DUP 1- count U< branch 7 + 2* >R return, and 13 to the halt port where there is no such token.

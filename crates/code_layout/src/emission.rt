@@ -1,26 +1,26 @@
 // The cells of items, at the end of the code.
 ghost use Rattle.std.specs.Prelude.{◌≡◌, ℕ, ◌+◌, ◌≤◌, ◌++◌, ◌∷◌, [], length, OnOk, true, false};
-ghost use Rattle.forth_program.specs.Tree.{Call, Child, Text, If, Until, While, Again, Do, QDo, Case, NoArm, Arm};
+ghost use Rattle.forth_program.specs.Tree.{If, Until, While, Again, Do, QDo, Case, NoArm, Arm};
 ghost use Rattle.forth_program.specs.Form.{everywhere, inside, in_arms};
 ghost use Rattle.forth_program.specs.ItemTrees.{node_of, tree_of, arms_of, arms_tree};
-ghost use Rattle.code_layout.specs.Built.{word_is_laid_out, text_is_laid_out, is_laid_out};
-ghost use Rattle.code_layout.specs.Layout.{Definition, routine_of, call_cell as cell_of_call, node_size, size, arms_size as case_arms_size, body_size, word_cells, text_cells, else_cells, node_cells, nodes_cells, arms_cells, arm_cells, body_cells};
+ghost use Rattle.code_layout.specs.Built.{is_laid_out};
+ghost use Rattle.code_layout.specs.Layout.{node_size, size, arms_size as case_arms_size, body_size, else_cells, node_cells, nodes_cells, arms_cells, arm_cells, body_cells};
 ghost use Rattle.code_layout.specs.Places.{ArePlaces, place_by, word_count, definition_count};
 
+use crate::calls::{add_child, add_definition_call, add_plain, add_text};
 use crate::cells::{
-    add_branch, add_call, add_do, add_end_case, add_jump, add_jump_if, add_number, add_of, add_out,
-    add_return, add_skip, add_turn, add_word,
+    add_branch, add_do, add_drop, add_jump, add_jump_if, add_number, add_of, add_out, add_return,
+    add_skip, add_turn,
 };
 use crate::parts::{
     again_has_parts, case_has_parts, do_has_parts, if_has_parts, q_do_has_parts, until_has_parts,
     while_has_parts,
 };
-use crate::places::{Places, TYPE, library_number};
+use crate::places::Places;
 use crate::reach::{end_is_reached, is_before_end, item_falls_through};
 use crate::sizes::{arms_size, else_size, items_size, size_if, turn_size};
-use forth_program::{Arms, DefId, Item, Items, TextKind};
+use forth_program::{Arms, Item, Items};
 use std::alloc::AllocError;
-use word_table::Word;
 
 // The jump over a false branch, where it has items and the true branch leads to it.
 fn add_else(
@@ -39,96 +39,6 @@ fn add_else(
     } else {
         Ok(())
     }
-}
-
-// The cells of a word, or the call of its routine.
-#[tactic(auto, unfolding(crate::specs::Places::place_by))]
-fn add_plain(
-    code: &mut Vec<u16>,
-    word: Word,
-    places: &Places,
-    data_start: u16,
-    tail: bool,
-) -> Result<(), AllocError>
-    requires places { ArePlaces places.now }
-    requires start { data_start ≤ 16000 }
-    requires laid_out { word_is_laid_out true (word_count places.now) (routine_of word) word ≡ true }
-    ensures { OnOk result (code.new.items ≡ code.old.items ++ word_cells data_start (place_by places.now) tail (routine_of word) word) }
-{
-    match word {
-        Word::Execute => add_call(code, places.execute, tail),
-        _ => match library_number(word) {
-            None => add_word(code, word, data_start),
-            Some(number) => add_call(code, places.words[number as usize], tail),
-        },
-    }
-}
-
-// The call of a definition.
-#[tactic(auto, unfolding(crate::specs::Places::place_by))]
-fn add_definition_call(
-    code: &mut Vec<u16>,
-    id: DefId,
-    places: &Places,
-    tail: bool,
-) -> Result<(), AllocError>
-    requires places { ArePlaces places.now }
-    requires laid_out { is_laid_out true (word_count places.now) (definition_count places.now) (Call id.0) ≡ true }
-    ensures { OnOk result (code.new.items ≡ code.old.items ++ cell_of_call tail (place_by places.now (Definition id.0)) ∷ []) }
-{
-    add_call(code, places.definitions[id.0 as usize], tail)
-}
-
-// A child: its address, and then the call of what DOES> gave it.
-fn add_child(
-    code: &mut Vec<u16>,
-    id: DefId,
-    address: u16,
-    places: &Places,
-    tail: bool,
-) -> Result<(), AllocError>
-    requires places { ArePlaces places.now }
-    requires laid_out { is_laid_out true (word_count places.now) (definition_count places.now) (Child id.0 address) ≡ true }
-    ensures { OnOk result (code.new.items ≡ code.old.items ++ node_cells 0 (place_by places.now) 0 0 tail true (Child id.0 address)) }
-{
-    add_number(code, address)?;
-    add_definition_call(code, id, places, tail)
-}
-
-// What follows the address and the length of a text: nothing for `S"`, `TYPE` for `."`, and the code of `ABORT"`.
-#[tactic(auto, unfolding(crate::specs::Places::place_by))]
-fn add_text_call(
-    code: &mut Vec<u16>,
-    kind: TextKind,
-    places: &Places,
-    tail: bool,
-) -> Result<(), AllocError>
-    requires places { ArePlaces places.now }
-    requires laid_out { text_is_laid_out (word_count places.now) kind ≡ true }
-    ensures { OnOk result (code.new.items ≡ code.old.items ++ text_cells (place_by places.now) tail kind) }
-{
-    match kind {
-        TextKind::Address => Ok(()),
-        TextKind::Print => add_call(code, places.words[TYPE], tail),
-        TextKind::Abort => add_call(code, places.abort, tail),
-    }
-}
-
-fn add_text(
-    code: &mut Vec<u16>,
-    kind: TextKind,
-    address: u16,
-    characters: u16,
-    places: &Places,
-    tail: bool,
-) -> Result<(), AllocError>
-    requires places { ArePlaces places.now }
-    requires laid_out { is_laid_out true (word_count places.now) (definition_count places.now) (Text kind address characters) ≡ true }
-    ensures { OnOk result (code.new.items ≡ code.old.items ++ node_cells 0 (place_by places.now) 0 0 tail true (Text kind address characters)) }
-{
-    add_number(code, address)?;
-    add_number(code, characters)?;
-    add_text_call(code, kind, places, tail)
 }
 
 #[cycle(emission)]
@@ -341,7 +251,7 @@ fn add_case(
     let end_at = rest_at + items_size(rest, false) + 1;
     add_arms(code, list, places, data_start, out_at, tail, end_at)?;
     add_items(code, rest, places, data_start, out_at, false)?;
-    add_end_case(code)
+    add_drop(code)
 }
 
 #[cycle(emission)]
@@ -402,8 +312,8 @@ fn add_item(
     }
 }
 
-/// The cells of items one after the other, at the end of the code. `data_start` is where data space begins, `places` says where each routine begins, `out_at` where
-/// the innermost loop is dropped, and `tail` whether the end of the items is in tail position.
+/// The cells of items one after the other, at the end of the code. `data_start` is where data space begins, `places` says where
+/// each routine begins, `out_at` where the innermost loop is dropped, and `tail` whether the end of the items is in tail position.
 #[cycle(emission)]
 pub(crate) fn add_items(
     code: &mut Vec<u16>,

@@ -2,7 +2,7 @@
 ghost use Rattle.code_layout.specs.Agreement.{ImagesAgree};
 ghost use Rattle.code_layout.specs.Chip.{ChipsAgree};
 ghost use Rattle.code_layout.specs.LastCalls.{LastCallsAreJumps};
-ghost use Rattle.code_layout.specs.Weights.{CodeIsLight};
+ghost use Rattle.code_layout.specs.Weights.{CodeIsLight, ItemsAreLight, TokensAreLight};
 
 use j1_simulator::runs_only_grow;
 use word_laws::{
@@ -12,9 +12,9 @@ use word_laws::{
 };
 
 /// With a library whose bodies mean its words: as long as a source lacks no cells and no return entries, its image does what the
-/// source does, within the price of the word
-/// steps: it prints the same, ends alike and leaves the same input and data space. And what n instructions print is no more than
-/// what `(n + 1) * (source_tokens + 4)` word steps print, and their end is the source's.
+/// source does, in no more instructions than the word steps may cost. It prints the same, ends alike and leaves the same input and
+/// data space. And what n instructions print is no more than what `(n + 1) * (source_tokens + 4)` word steps print, and their end
+/// is the source's.
 pub fn images_agree()
     ensures { ImagesAgree }
 {
@@ -55,4 +55,10 @@ pub fn last_calls_are_jumps()
 /// weight of the definitions and the code of the tokens.
 pub fn code_is_light()
     ensures { CodeIsLight }
+{}
+
+/// Each item of a definition takes at most its weight in cells, and so does each execution token with its jump.
+pub fn items_are_light()
+    ensures items { ItemsAreLight }
+    ensures tokens { TokensAreLight }
 {}

@@ -193,10 +193,9 @@ fn code_of(alloc: Global, library: &Program, program: &Program) -> Result<Vec<u1
     Ok(code)
 }
 
-/// The image of a built program with a library, whose words are the definitions before its MAIN: cells 0 to 7 call the program's
-/// MAIN and halt with 0. A jump for each execution token follows, the code of each library word, that of `EXECUTE` and of `ABORT"`,
-/// that of each definition, and that of the tokens that have none. Last calls are jumps. An error is want of
-/// memory.
+/// The image of a program with a library, whose words are the definitions before its MAIN. Cells 0 to 7 call the program's MAIN
+/// and halt with 0. There follow a jump for each execution token, the code of each library word, that of `EXECUTE` and of `ABORT"`,
+/// that of each definition, and that of the tokens that have none. Last calls are jumps. An error is want of memory.
 pub fn lay_out(alloc: Global, library: &Program, program: &Program) -> Result<Image, AllocError>
     requires library { IsLibrary (library_of library.now) }
     requires program { IsBuilt (library_of library.now) program.now }

@@ -7,6 +7,7 @@
 //! `Chip` what follows on the chip. The laws are functions that only call the laws that they stand on.
 #![tactic(auto)]
 
+mod calls;
 mod cells;
 mod emission;
 mod laws;
@@ -16,7 +17,8 @@ mod places;
 mod reach;
 mod sizes;
 mod tokens;
+mod words;
 
 pub use cells::tail_jump;
-pub use laws::{chips_agree, code_is_light, images_agree, last_calls_are_jumps};
+pub use laws::{chips_agree, code_is_light, images_agree, items_are_light, last_calls_are_jumps};
 pub use layout::lay_out;

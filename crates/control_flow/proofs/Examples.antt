@@ -112,9 +112,9 @@ unfolding items_at source_at
 foreign_byte = refl
 
 -- a token that is not built comes first
-library_word : program_of_text (codes ": MAIN 1 . X2 ;") ≡ NotBuilt
+host_word : program_of_text (codes ": MAIN 1 EXECUTE X2 ;") ≡ NotBuilt
 unfolding items_at source_at
-library_word = refl
+host_word = refl
 
 word_outside : program_of_text (codes "X : MAIN ;") ≡ NotBuilt
 unfolding source_at

@@ -19,7 +19,9 @@ use Rattle.control_flow.specs.Nest.{ended, is_inside_do, open_of}
 use Rattle.control_flow.specs.Sense.{opening_word, ending_word}
 use Rattle.control_flow.specs.Outcome.{Place, Outcome, weighed, unfit}
 use Rattle.control_flow.specs.Items.{Seen, One, Many, Body, Cases, seen_of, token_at, opened_at, ended_at, else_by, if_by, if_at, while_by, begin_by, begin_at, do_by, do_at, q_do_by, q_do_at, body_by, body_at, arms_by, arms_at, case_at, structure_at, alone, item_at, then_items, items_by, items_at}
-use Rattle.control_flow.specs.SourceLaw.{is_read, else_weight, loop_weight, node_weight, weight_of, arms_weight, node_tokens, tokens_of, arms_tokens}
+use Rattle.forth_program.specs.Weight.{else_weight, turn_weight, node_weight, weight as weight_of, arms_weight}
+use Rattle.forth_program.specs.SourceTokens.{node_tokens, tokens_of, arms_tokens}
+use Rattle.control_flow.specs.SourceLaw.{is_read}
 use Rattle.control_flow.proofs.Readings.{Passes, next_passes}
 use Rattle.control_flow.proofs.Senses.{AllBelow, IsSense, sense_is}
 use Rattle.control_flow.proofs.Moves.{Good, good_then, Moves, weighs, opens, ends, gone, becomes, holds, same_loop, own_loop}
@@ -184,7 +186,7 @@ module _ (go : Place → Outcome Many) (n : ℕ) (goes : (at : Place) → length
     -- DO and ?DO
     module _ (w : ℕ) (m : Moves w from at) (k : at.nest ≡ kind.Do ∷ from.nest) where
       loop_read : (node : Node) (body : Nodes) (plus : Bool) (e : Ending) (end : Place) → ItemsRead at (record { nodes = body; ending = e; at = end }) → ended at.nest e ≡ Ok from.nest →
-          (entry_of (ending_word e)).weight ≡ loop_weight plus → node_weight node ≡ w + weight_of body + loop_weight plus → node_tokens node ≡ tokens_of body + 2 →
+          (entry_of (ending_word e)).weight ≡ turn_weight plus → node_weight node ≡ w + weight_of body + turn_weight plus → node_tokens node ≡ tokens_of body + 2 →
           leave_fits (is_inside_do from.nest) node ≡ leaves_fit true body → ((N : ℕ) → (is_read N node && inside (is_read N) node) ≡ everywhere (is_read N) body) → ItemRead from (record { node = node; at = end })
       loop_read node body plus e end r c v x t l i =
           let is : Ok from.nest ≡ Ok end.nest = sym c ∙ r.nest in

@@ -4,7 +4,7 @@ use Rattle.std.specs.Prelude.{slice_index_or}
 use Rattle.std.specs.List.{list_all}
 use Rattle.std.proofs.lemmas.Bool.{eqb-false, and_parts}
 use Rattle.word_table.specs.declared.word.Word.{Word}
-use Rattle.word_table.specs.declared.word.Word.TheVariants.{ToR, RFrom, RFetch, Index, OuterIndex, Unloop}
+use Rattle.word_table.specs.declared.word.Word.TheVariants.{ToR, RFrom, RFetch, Index, OuterIndex, Unloop, Execute}
 use Rattle.word_table.specs.declared.word.Class.{Class}
 use Rattle.word_table.specs.declared.word.Class.TheVariants as class
 use Rattle.word_table.specs.Table.{entry_of}
@@ -17,8 +17,9 @@ use Rattle.dictionary_core.specs.Pairs.{Pair, newest_value}
 use Rattle.dictionary_core.specs.Buckets.{is_name}
 use Rattle.control_flow.specs.declared.sense.Sense.{Sense}
 use Rattle.control_flow.specs.declared.sense.Sense.TheVariants as sense
-use Rattle.control_flow.specs.Sense.{number_sense, structure_sense, class_sense, sense_by, sense_of, sense_in}
-use Rattle.control_flow.specs.SourceLaw.{is_inline, is_plain}
+use Rattle.control_flow.specs.Sense.{number_sense, structure_sense, library_sense, class_sense, sense_by, sense_of, sense_in}
+use Rattle.forth_program.specs.Form.{is_code_class}
+use Rattle.control_flow.specs.SourceLaw.{is_plain}
 
 -- each name stands for a definition whose number is below N
 abbrev pub AllBelow : ℕ → List (Pair ℕ) → Type 0
@@ -44,7 +45,7 @@ pub below_wider : (N M : ℕ) (entries : List (Pair ℕ)) → N ≤ M → AllBel
 below_wider N M [] h k = tt
 below_wider N M (p ∷ ps) h k = (omega (arith, k.0), below_wider N M ps h k.1)
 
--- a number that is read is a cell, a word is inline or on return entries, and a definition has a number below N
+-- a number that is read is a cell, a word is plain, and a definition has a number below N
 abbrev pub IsSense : ℕ → Sense → Type 0
 IsSense N (sense.Number value) = value < 65536
 IsSense N (sense.Plain word) = is_plain word ≡ true
@@ -62,17 +63,28 @@ module _ (N : ℕ) where
   structure_is word = tt
 
   inline_is : (word : Word) → (entry_of word).class ≡ class.Inline → is_plain word ≡ true
+  inline_is Execute e = (let no : ⊥ = cc in absurd no)
   inline_is ToR e = refl
   inline_is RFrom e = refl
   inline_is RFetch e = refl
   inline_is Index e = refl
   inline_is OuterIndex e = refl
   inline_is Unloop e = refl
-  inline_is word e = ap is_inline e
+  inline_is word e = ap is_code_class e
+
+  library_is : (word : Word) → (entry_of word).class ≡ class.Library → IsSense N (library_sense word)
+  library_is Execute e = tt
+  library_is ToR e = refl
+  library_is RFrom e = refl
+  library_is RFetch e = refl
+  library_is Index e = refl
+  library_is OuterIndex e = refl
+  library_is Unloop e = refl
+  library_is word e = ap is_code_class e
 
   class_is : (kind : Class) (word : Word) → (entry_of word).class ≡ kind → IsSense N (class_sense kind word)
   class_is class.Inline word e = inline_is word e
-  class_is class.Library word e = tt
+  class_is class.Library word e = library_is word e
   class_is class.Structure word e = structure_is word
   class_is class.Host word e = tt
 

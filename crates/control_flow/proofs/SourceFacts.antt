@@ -1,16 +1,14 @@
 -- What holds of a source so far, and of the program of a text.
 use Rattle.std.proofs.Common.{◌≡◌, ℕ, zero, suc, ◌+◌, ◌<◌, ◌≤◌, nat_lt, Bool, true, false, ◌&&◌, List, [], ◌∷◌, ◌++◌, length, Option, Some, None, refl, sym, ap, ◌∙◌, subst, arith, length-append, ltb-true}
 use Rattle.std.specs.Prelude.{codes}
-use Rattle.std.specs.List.{list_all}
+use Rattle.std.specs.List.{All, list_all}
 use Rattle.std.proofs.lemmas.Bool.{and_from, and_parts, lt-ltb}
+use Rattle.std.proofs.lemmas.List.Elements.{All-nil, All-cons}
 use Rattle.word_table.specs.declared.word.Word.{Word}
-use Rattle.word_table.specs.declared.word.Word.TheVariants.{ToR, RFrom, RFetch, Index, OuterIndex, Unloop}
-use Rattle.word_table.specs.declared.word.Class.{Class}
-use Rattle.word_table.specs.declared.word.Class.TheVariants as class
-use Rattle.word_table.specs.Table.{entry_of}
+use Rattle.word_table.specs.declared.word.Word.TheVariants.{ToR, RFrom, RFetch, Index, OuterIndex, Unloop, Execute}
 use Rattle.word_table.specs.Names.{word_named}
 use Rattle.forth_program.specs.Tree.{Node, Nodes, Arms, Literal, Plain, Call, Child, If, Until, While, Again, Do, QDo, Case, Empty, Then, NoArm, Arm}
-use Rattle.forth_program.specs.Form.{IsProgram, everywhere, inside, in_arms, has_id_below, is_code_class, may_stand, leaves_fit}
+use Rattle.forth_program.specs.Form.{IsProgram, everywhere, inside, in_arms, has_id_below, calls_go_back, may_stand, leaves_fit}
 use Rattle.forth_program.specs.Program.{SourceProgram}
 use Rattle.forth_reader.specs.Reading.{Reading, NoMore, Reads, Refuses, name_from, next_from}
 use Rattle.dictionary_core.specs.Pairs.{pair, newest_value}
@@ -20,8 +18,10 @@ use Rattle.control_flow.specs.declared.nest.Ending.TheVariants as ending
 use Rattle.control_flow.specs.Nest.{is_inside_do}
 use Rattle.control_flow.specs.Outcome.{Place, Outcome, Fine, Refused, NotBuilt, Endless, Each}
 use Rattle.control_flow.specs.Items.{items_at}
-use Rattle.control_flow.specs.SourceText.{Named, Source, Outside, is_reserved_name, is_colon_name, roomed, named_of, name_at, defined_by, definition_at, outside_of, outside_at, program_with, program_of, source_by, source_at, started, program_of_text}
-use Rattle.control_flow.specs.SourceLaw.{is_inline, is_plain, is_read, weight_of, tokens_of, all_weights, all_tokens, IsSource, EachIsJudged, EachProgramIsSource}
+use Rattle.control_flow.specs.SourceText.{Named, Source, Outside, is_reserved_name, is_colon_name, fixed_space, roomed, named_of, name_at, defined_by, definition_at, outside_of, outside_at, program_with, program_of, source_by, source_at, started, program_of_text}
+use Rattle.forth_program.specs.Weight.{weight as weight_of, bodies_weight}
+use Rattle.control_flow.specs.SourceLaw.{is_plain, is_read, IsSource, EachIsJudged, EachProgramIsSource}
+use Rattle.forth_program.specs.SourceTokens.{tokens_of, all_tokens}
 use Rattle.control_flow.proofs.Readings.{Passes, name_passes, next_passes}
 use Rattle.control_flow.proofs.Senses.{AllBelow, newest_below, below_more, below_wider}
 use Rattle.control_flow.proofs.Moves.{Good, good_then, good_is, outermost}
@@ -79,10 +79,6 @@ read_id N (Call definition) e = e
 read_id N (Child definition address) e = absurd cc
 read_id N node e = refl
 
-inline_code : (kind : Class) → is_inline kind ≡ true → is_code_class kind ≡ true
-inline_code class.Inline e = refl
-inline_code kind e = absurd cc
-
 plain_stands : (word : Word) → is_plain word ≡ true → may_stand (Plain word) ≡ true
 plain_stands ToR e = refl
 plain_stands RFrom e = refl
@@ -90,7 +86,8 @@ plain_stands RFetch e = refl
 plain_stands Index e = refl
 plain_stands OuterIndex e = refl
 plain_stands Unloop e = refl
-plain_stands word e = inline_code ((entry_of word).class) e
+plain_stands Execute e = refl
+plain_stands word e = e
 
 read_stands : (N : ℕ) (node : Node) → is_read N node ≡ true → may_stand node ≡ true
 read_stands N (Plain word) e = plain_stands word e
@@ -102,7 +99,17 @@ all_more P (b ∷ bs) body h k =
     let both = and_parts (P b) (list_all P bs) h in
     and_from _ _ both.0 (all_more P bs body both.1 k)
 
-weights_more : (bodies : List Nodes) (body : Nodes) → all_weights (bodies ++ body ∷ []) ≡ all_weights bodies + (weight_of body + 1)
+-- the calls of a definition more, at the end, are at most its number
+back_more : (bodies : List Nodes) (body : Nodes) (definition : ℕ) → calls_go_back definition bodies ≡ true → everywhere (has_id_below (suc (definition + length bodies))) body ≡ true → calls_go_back definition (bodies ++ body ∷ []) ≡ true
+back_more [] body definition h k =
+    let own : suc (definition + 0) ≡ suc definition = omega arith in
+    and_from _ _ (subst (λ n. everywhere (has_id_below n) body ≡ true) own k) refl
+back_more (b ∷ bs) body definition h k =
+    let both = and_parts (everywhere (has_id_below (suc definition)) b) (calls_go_back (suc definition) bs) h in
+    let own : suc (definition + suc (length bs)) ≡ suc (suc definition + length bs) = omega arith in
+    and_from _ _ both.0 (back_more bs body (suc definition) both.1 (subst (λ n. everywhere (has_id_below n) body ≡ true) own k))
+
+weights_more : (bodies : List Nodes) (body : Nodes) → bodies_weight (bodies ++ body ∷ []) ≡ bodies_weight bodies + (weight_of body + 1)
 weights_more [] body = omega arith
 weights_more (b ∷ bs) body = omega (arith, weights_more bs body)
 
@@ -120,8 +127,9 @@ pub record SourceRead (source : Source) : Type 0 where
   pub below : AllBelow source.at.definitions source.at.entries
   pub nest : source.at.nest ≡ []
   pub items : list_all (everywhere (is_read (length source.bodies))) source.bodies ≡ true
+  pub back : calls_go_back 0 source.bodies ≡ true
   pub leaves : list_all (leaves_fit false) source.bodies ≡ true
-  pub weight : all_weights source.bodies ≤ source.at.weight
+  pub weight : bodies_weight source.bodies ≤ source.at.weight
   pub light : source.at.weight ≤ 2400
   pub tokens : all_tokens source.bodies ≤ source.at.count
 
@@ -180,6 +188,12 @@ module _ (source : Source) (so_far : SourceRead source) (at : Place) (p : Passed
                   own = own;
                   others = subst (AllBelow (length (source.bodies ++ nodes ∷ []))) (sym (q.passed.entries ∙ p.entries)) (below_wider source.at.definitions (length (source.bodies ++ nodes ∷ [])) source.at.entries (omega (arith, more, so_far.counted)) so_far.below);
                 }));
+            back = back_more source.bodies nodes 0 so_far.back
+                (everywhere_wider (is_read (suc (0 + length source.bodies))) (has_id_below (suc (0 + length source.bodies))) (read_id (suc (0 + length source.bodies))) nodes
+                (r.items (suc (0 + length source.bodies)) (record {
+                  own = omega (arith, q.passed.definitions ∙ p.definitions, so_far.counted);
+                  others = subst (AllBelow (suc (0 + length source.bodies))) (sym (q.passed.entries ∙ p.entries)) (below_wider source.at.definitions (suc (0 + length source.bodies)) source.at.entries (omega (arith, so_far.counted)) so_far.below);
+                })));
             leaves = all_more (leaves_fit false) source.bodies nodes so_far.leaves (ap (λ l. leaves_fit (is_inside_do l) nodes) (sym empty) ∙ r.leaves);
             weight = omega (arith, weights_more source.bodies nodes, w, so_far.weight, q.passed.weight, p.weight);
             light = r.light;
@@ -214,6 +228,12 @@ outside_read from (Reads token k rest) h =
 
 -- ---- the end of the text
 
+all_bytes : (bytes : List ℕ) → list_all (λ byte. nat_lt byte 256) bytes ≡ true → All (λ byte. byte < 256) bytes
+all_bytes [] h = All-nil (λ byte. byte < 256)
+all_bytes (b ∷ bs) h =
+    let both = and_parts (nat_lt b 256) (list_all (λ byte. nat_lt byte 256) bs) h in
+    All-cons (λ byte. byte < 256) b bs (ltb-true b 256 both.0) (all_bytes bs both.1)
+
 module _ (source : Source) (so_far : SourceRead source) (at : Place) (es : at.entries ≡ source.at.entries) (c : source.at.count ≤ at.count) where
   is_source : (main : ℕ) → main < length source.bodies → IsSource (program_with source.names source.bodies main at.count)
   is_source main h = record {
@@ -236,6 +256,8 @@ module _ (source : Source) (so_far : SourceRead source) (at : Place) (es : at.en
     counted = omega (arith, so_far.tokens, c);
     no_tokens = refl;
     version_1 = refl;
+    bytes = all_bytes fixed_space refl;
+    calls_back = so_far.back;
   }
 
   main_on : (o : Option ℕ) → newest_value at.entries (codes "MAIN") ≡ o → Good IsSource (elim o [ Some main ↦ Fine (program_with source.names source.bodies main at.count) | None ↦ Refused (at.count + 1) cause.NoMain ])
@@ -261,7 +283,7 @@ source_read (suc n) source s h =
     (λ outside o. outside_on n source s h (source_read n) outside.begins outside.at o)
 
 started_read : (text : List ℕ) → SourceRead (started text)
-started_read text = record { counted = refl; names = refl; entries = refl; few = omega arith; below = tt; nest = refl; items = refl; leaves = refl; weight = omega arith; light = omega arith; tokens = omega arith }
+started_read text = record { counted = refl; names = refl; entries = refl; few = omega arith; below = tt; nest = refl; items = refl; back = refl; leaves = refl; weight = omega arith; light = omega arith; tokens = omega arith }
 
 pub text_read : (text : List ℕ) → Good IsSource (program_of_text text)
 text_read text = source_read (suc (length text)) (started text) (started_read text) (omega arith)

@@ -1,15 +1,15 @@
 -- What calls answer.
 use Rattle.std.specs.Prelude.{◌≡◌, ◌≤◌, map, length, None, Result, Ok, Err}
 use Rattle.forth_program.specs.ItemTrees.{tree_of}
-use Rattle.control_flow.specs.declared.compiler.Compiler.{Compiler}
+use Rattle.control_flow.specs.declared.parser.Parser.{Parser}
 use Rattle.control_flow.specs.declared.source.ReadSource.{ReadSource}
 use Rattle.control_flow.specs.declared.refusal.SourceError.{SourceError}
 use Rattle.control_flow.specs.declared.refusal.SourceError.TheVariants as error
 use Rattle.control_flow.specs.Outcome.{Place, Outcome, Fine, Refused, NotBuilt}
 use Rattle.control_flow.specs.SourceText.{Source}
 
--- the place of a compiler
-abbrev pub place_of : Compiler → Place
+-- the place of a parser
+abbrev pub place_of : Parser → Place
 place_of c = record {
   rest = c.reader.rest;
   count = c.reader.count;
@@ -19,20 +19,20 @@ place_of c = record {
   definitions = c.definitions;
 }
 
--- a compiler that can go on: its reader has refused nothing, and the weights are within the limit
-pub record IsReady (c : Compiler) : Type 0 where
+-- a parser that can go on: its reader has refused nothing, and the weights are within the limit
+pub record IsReady (c : Parser) : Type 0 where
   pub sound : c.reader.failed ≡ None
   pub light : c.weight ≤ 2400
 
 -- what is read so far
 abbrev pub source_of : ReadSource → Source
-source_of s = record { at = place_of s.compiler; names = s.names.items; bodies = map tree_of s.bodies.items }
+source_of s = record { at = place_of s.parser; names = s.names.items; bodies = map tree_of s.bodies.items }
 
 -- each name has one body, and is an entry
 pub record IsCounted (s : ReadSource) : Type 0 where
-  pub names : length s.names.items ≡ s.compiler.definitions
-  pub bodies : length s.bodies.items ≡ s.compiler.definitions
-  pub entries : length s.compiler.dictionary.pairs ≡ s.compiler.definitions
+  pub names : length s.names.items ≡ s.parser.definitions
+  pub bodies : length s.bodies.items ≡ s.parser.definitions
+  pub entries : length s.parser.dictionary.pairs ≡ s.parser.definitions
 
 -- an error is the outcome, want of memory aside
 abbrev pub Fails : {B : Type 0} → SourceError → Outcome B → Type 0

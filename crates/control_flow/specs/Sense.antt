@@ -73,10 +73,15 @@ structure_sense word.Exit = Exits
 structure_sense word.Recurse = Recurses
 structure_sense w = NotYet
 
+-- EXECUTE is not built
+abbrev pub library_sense : Word → Sense
+library_sense word.Execute = NotYet
+library_sense w = Plain w
+
 -- a word by its class
 abbrev pub class_sense : Class → Word → Sense
 class_sense class.Inline word = Plain word
-class_sense class.Library word = NotYet
+class_sense class.Library word = library_sense word
 class_sense class.Structure word = structure_sense word
 class_sense class.Host word = NotYet
 

@@ -1,5 +1,5 @@
 // What holds of all source texts.
-ghost use Rattle.control_flow.specs.SourceLaw.{EachIsJudged, EachProgramIsSource};
+ghost use Rattle.control_flow.specs.SourceLaw.{EachIsJudged, EachProgramIsSource, TestsWiden};
 
 /// Each text has a program or a first refusal, or has a token first that is not built yet: the definition never gives up.
 #[tactic(auto, using(crate::proofs::SourceFacts::judged))]
@@ -7,8 +7,14 @@ pub fn texts_are_judged()
     ensures { EachIsJudged }
 {}
 
-/// The program of a text meets the condition of a program; its numbers are cells, its words are inline or on return entries, its
-/// calls lead to definitions; its weights are within the limit, and its source has a token for each of its parts.
+/// The program of a text meets the condition of a program; its numbers are cells, its words are inline, of the library or on
+/// return entries, its calls lead to the definition in which they stand or to earlier ones; its weights are within the limit, its
+/// source has a token for each of its parts, and its first data space is bytes.
 pub fn programs_are_sources()
     ensures { EachProgramIsSource }
+{}
+
+/// Where a test holds of every item, also in structures, each wider test does.
+pub fn tests_widen()
+    ensures { TestsWiden }
 {}

@@ -1,7 +1,7 @@
 // What tokens stand for.
 ghost use Rattle.std.specs.Prelude.{◌≡◌};
 ghost use Rattle.word_table.specs.Names.{word_named};
-ghost use Rattle.control_flow.specs.Sense.{sense_of, word_sense, structure_sense, number_sense};
+ghost use Rattle.control_flow.specs.Sense.{sense_of, word_sense, library_sense, structure_sense, number_sense};
 ghost use Rattle.control_flow.specs.SourceText.{is_reserved, is_reserved_name, is_colon, is_colon_name};
 
 use crate::nest::{Ending, Opening};
@@ -13,7 +13,7 @@ use word_table::{Class, Word, entry, word_of};
 pub(crate) enum Sense {
     /// A number, as a cell.
     Number(u16),
-    /// An inline word, or a word on return entries.
+    /// An inline word, a library word, or a word on return entries.
     Plain(Word),
     /// A definition, by its number.
     Calls(u16),
@@ -69,12 +69,21 @@ fn structure_sense(word: Word) -> Sense
     }
 }
 
+fn library_sense(word: Word) -> Sense
+    ensures { result ≡ library_sense word }
+{
+    match word {
+        Word::Execute => Sense::NotYet,
+        _ => Sense::Plain(word),
+    }
+}
+
 fn word_sense(word: Word) -> Sense
     ensures { result ≡ word_sense word }
 {
     match entry(word).class {
         Class::Inline => Sense::Plain(word),
-        Class::Library => Sense::NotYet,
+        Class::Library => library_sense(word),
         Class::Structure => structure_sense(word),
         Class::Host => Sense::NotYet,
     }

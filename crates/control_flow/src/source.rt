@@ -7,8 +7,8 @@ ghost use Rattle.control_flow.specs.Outcome.{Each};
 ghost use Rattle.control_flow.specs.SourceText.{fixed_space, started, with_definition, definition_at, program_of, program_of_text};
 ghost use Rattle.control_flow.specs.Answers.{place_of, source_of, IsReady, IsCounted, Gives};
 
-use crate::compiler::Compiler;
 use crate::nest::{Ending, Nest};
+use crate::parser::Parser;
 use crate::refusal::{SourceCause, SourceError, refused};
 use dictionary_core::Dictionary;
 use forth_program::{DefId, Items, Name, Program, ProgramParts};
@@ -18,7 +18,7 @@ use std::alloc::{AllocError, Global};
 /// What is read of a source so far.
 #[derive(Drop)]
 pub(crate) struct ReadSource<'a> {
-    pub(crate) compiler: Compiler<'a>,
+    pub(crate) parser: Parser<'a>,
     /// The name of each definition.
     pub(crate) names: Vec<Name>,
     /// The items of each definition, in the same order.
@@ -39,12 +39,12 @@ impl<'a> ReadSource<'a> {
     fn new(alloc: Global, bytes: &'a [u8]) -> Result<ReadSource<'a>, AllocError>
         requires { length bytes.now < 4294967295 }
         ensures start { IfOk result (λ source. source_of source ≡ started bytes.now) }
-        ensures ready { IfOk result (λ source. IsReady source.compiler) }
+        ensures ready { IfOk result (λ source. IsReady source.parser) }
         ensures counted { IfOk result (λ source. IsCounted source) }
     {
         let dictionary = Dictionary::new(alloc)?;
         Ok(ReadSource {
-            compiler: Compiler {
+            parser: Parser {
                 reader: Reader::new(bytes),
                 weight: 0,
                 nest: Nest::new(),
@@ -59,17 +59,17 @@ impl<'a> ReadSource<'a> {
     /// A definition that was read stands behind the others, and its name is found from here on.
     fn define(&mut self, name: &str, items: Items) -> Result<(), SourceError>
         requires form { IsToken name.now }
-        requires ready { IsReady self.old.compiler }
+        requires ready { IsReady self.old.parser }
         requires counted { IsCounted self.old }
-        ensures done { OnOk result (source_of self.new ≡ with_definition (source_of self.old) name.now (tree_of items) (place_of self.old.compiler)) }
+        ensures done { OnOk result (source_of self.new ≡ with_definition (source_of self.old) name.now (tree_of items) (place_of self.old.parser)) }
         ensures memory { IfErr result (λ error. error ≡ SourceError.OutOfMemory) }
-        ensures same { length self.new.compiler.reader.rest ≡ length self.old.compiler.reader.rest }
-        ensures ready { OnOk result (IsReady self.new.compiler) }
+        ensures same { length self.new.parser.reader.rest ≡ length self.old.parser.reader.rest }
+        ensures ready { OnOk result (IsReady self.new.parser) }
         ensures counted { OnOk result (IsCounted self.new) }
         ensures longer { OnOk result (length self.new.bodies.items ≡ length self.old.bodies.items + 1) }
     {
-        let definition = self.compiler.definitions;
-        match self.compiler.dictionary.add(name, definition) {
+        let definition = self.parser.definitions;
+        match self.parser.dictionary.add(name, definition) {
             Ok(_) => {}
             Err(_) => return Err(SourceError::OutOfMemory),
         }
@@ -85,41 +85,41 @@ impl<'a> ReadSource<'a> {
             Ok(()) => {}
             Err(_) => return Err(SourceError::OutOfMemory),
         }
-        self.compiler.definitions += 1;
+        self.parser.definitions += 1;
         Ok(())
     }
 
     /// A definition behind its `:`.
     fn definition(&mut self, alloc: Global) -> Result<(), SourceError>
-        requires ready { IsReady self.old.compiler }
+        requires ready { IsReady self.old.parser }
         requires counted { IsCounted self.old }
-        ensures gives { (n : ℕ) → length self.old.compiler.reader.rest < n → Gives (λ _. source_of self.new) result (definition_at n (source_of self.old) (place_of self.old.compiler)) }
-        ensures shorter { OnOk result (length self.new.compiler.reader.rest ≤ length self.old.compiler.reader.rest) }
-        ensures ready { OnOk result (IsReady self.new.compiler) }
+        ensures gives { (n : ℕ) → length self.old.parser.reader.rest < n → Gives (λ _. source_of self.new) result (definition_at n (source_of self.old) (place_of self.old.parser)) }
+        ensures shorter { OnOk result (length self.new.parser.reader.rest ≤ length self.old.parser.reader.rest) }
+        ensures ready { OnOk result (IsReady self.new.parser) }
         ensures counted { OnOk result (IsCounted self.new) }
         ensures longer { OnOk result (length self.new.bodies.items ≡ length self.old.bodies.items + 1) }
     {
-        let name = self.compiler.name()?;
-        let body = self.compiler.items(alloc)?;
+        let name = self.parser.name()?;
+        let body = self.parser.items(alloc)?;
         match body.ending {
             Ending::Semicolon => self.define(name, body.items),
-            _ => refused(self.compiler.reader.count(), SourceCause::BadNest),
+            _ => refused(self.parser.reader.count(), SourceCause::BadNest),
         }
     }
 
     /// The program, at the end of the text.
     fn program(self, alloc: Global) -> Result<Program, SourceError>
         requires counted { IsCounted self }
-        requires form { Each IsProgram (program_of (source_of self) (place_of self.compiler)) }
-        ensures { Gives (λ program. program) result (program_of (source_of self.entry) (place_of self.entry.compiler)) }
+        requires form { Each IsProgram (program_of (source_of self) (place_of self.parser)) }
+        ensures { Gives (λ program. program) result (program_of (source_of self.entry) (place_of self.entry.parser)) }
     {
         let ReadSource {
-            mut compiler,
+            mut parser,
             names,
             bodies,
         } = self;
-        let tokens = compiler.reader.count();
-        let Some(main) = compiler.dictionary.look_up("MAIN") else {
+        let tokens = parser.reader.count();
+        let Some(main) = parser.dictionary.look_up("MAIN") else {
             return refused(tokens + 1, SourceCause::NoMain);
         };
         let space = match fixed_space(alloc) {
@@ -157,7 +157,7 @@ pub fn read_program(alloc: Global, bytes: &[u8]) -> Result<Program, SourceError>
         Err(AllocError) => return Err(SourceError::OutOfMemory),
     };
     'definitions: loop {
-        let begins = match source.compiler.outside() {
+        let begins = match source.parser.outside() {
             Ok(begins) => begins,
             Err(error) => return Err(error),
         };

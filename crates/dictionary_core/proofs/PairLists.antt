@@ -99,6 +99,9 @@ module _ {V : Type 0} where
   seen_looks names entries seen b more is as_many h =
       omega (arith, h, ap (λ (d : DictionaryState V). d.looks) is, ap (number_of_names (has_bucket b)) (seen_names names.names entries names.looks seen is as_many))
 
+  pub seen_risen : (names : NameList) (entries : List (Entry V)) (seen : DictionaryState V) (more : ℕ) → state_of names entries ≡ seen → names.looks ≤ more → seen.looks ≤ more
+  seen_risen names entries seen more is h = omega (arith, h, ap (λ (d : DictionaryState V). d.looks) is)
+
   pairs_cut : (names : List (List ℕ)) (entries : List (Entry V)) → pairs_in (take (length entries) names) entries ≡ pairs_in names entries
   pairs_cut [] [] = refl
   pairs_cut [] (x ∷ xs) = refl

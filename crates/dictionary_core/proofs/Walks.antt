@@ -37,6 +37,7 @@ pub record Walk (asked : List ℕ) (names present : List (List ℕ)) (at : Optio
   pub names_are : present ≡ names
   pub at_is : at ≡ last_in (bucket asked) (take upto names)
   pub same : last_place (is_name asked) (take upto names) ≡ last_place (is_name asked) names
+  pub risen : start ≤ looks
   pub looked : looks + number_of_names (has_bucket (bucket asked)) (take upto names) ≤ start + number_of_names (has_bucket (bucket asked)) names
 
 pub walk_starts : (asked : List ℕ) (names : List (List ℕ)) (head : Option ℕ) (looks : ℕ) → head ≡ last_in (bucket asked) names → Walk asked names names head looks looks
@@ -48,6 +49,7 @@ walk_starts asked names head looks e =
       names_are = refl;
       at_is = e ∙ ap (last_in (bucket asked)) (sym whole);
       same = ap (last_place (is_name asked)) whole;
+      risen = omega arith;
       looked = omega (arith, ap (number_of_names (has_bucket (bucket asked))) whole);
     }
 
@@ -80,9 +82,9 @@ module _ (asked : List ℕ) (names present : List (List ℕ)) (at : Option ℕ) 
     pub walk_looked : (more : ℕ) → more ≤ looks + 1 → more ≤ start + number_of_names (has_bucket (bucket asked)) names
     walk_looked more h = omega (arith, h, w.looked, found.counted)
 
-    pub walk_goes_on : {V : Type 0} (entry : Entry V) (more : ℕ) (next : List (List ℕ)) → IsEntry names place entry → str_eq_ignore_ascii_case (slice_index_or present place []) asked ≡ false → more ≤ looks + 1 → next ≡ present →
+    pub walk_goes_on : {V : Type 0} (entry : Entry V) (more : ℕ) (next : List (List ℕ)) → IsEntry names place entry → str_eq_ignore_ascii_case (slice_index_or present place []) asked ≡ false → looks ≤ more → more ≤ looks + 1 → next ≡ present →
         Walk asked names next entry.older more start
-    walk_goes_on entry more next e miss h same_names =
+    walk_goes_on entry more next e miss up h same_names =
         let shorter : take place (take w.upto names) ≡ take place names = take-take place w.upto names (omega (arith, before)) in
         let bucket_is : entry.bucket ≡ bucket asked = e.bucket_is ∙ ap bucket (sym name_is) ∙ eqb-true (bucket (slice_index_or (take w.upto names) place [])) (bucket asked) found.passes in
         record {
@@ -91,6 +93,7 @@ module _ (asked : List ℕ) (names present : List (List ℕ)) (at : Option ℕ) 
           names_are = same_names ∙ w.names_are;
           at_is = e.older_is ∙ ap (λ b. last_in b (take place names)) bucket_is;
           same = ap (last_place (is_name asked)) (sym shorter) ∙ sym (found.miss (asked_is false miss)) ∙ w.same;
+          risen = omega (arith, up, w.risen);
           looked = omega (arith, h, w.looked, found.counted, ap (number_of_names (has_bucket (bucket asked))) shorter);
         }
 

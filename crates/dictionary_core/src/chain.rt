@@ -27,6 +27,7 @@ pub(crate) fn place_in_chain<V>(
     requires head { head ≡ last_in (bucket name.now) names.old.names }
     ensures place { result ≡ last_place (is_name name.now) names.old.names }
     ensures names { names.new.names ≡ names.old.names }
+    ensures risen { names.old.looks ≤ names.new.looks }
     ensures looks { names.new.looks ≤ names.old.looks + number_of_names (has_bucket (bucket name.now)) names.old.names }
 {
     let mut at = head;

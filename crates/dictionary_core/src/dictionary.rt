@@ -149,7 +149,7 @@ impl<V: Drop> Dictionary<V> {
     }
 
     /// The place and the value of the last pair of a name, letters without case. None comes exactly where there is none. The
-    /// pairs stay, and the looks rise by at most the number of names that have the bucket of the name.
+    /// pairs stay. The looks never fall, and rise by at most the number of names that have the bucket of the name.
     pub fn find(&mut self, name: &str) -> Option<(u32, &V)>
         ensures* keeps { sem 𝓛 (keeps_pairs V.row self.entry (number_of_names (has_bucket (bucket name.now)) (names_of self.old.pairs))) }
         ensures found { MatchOption result
@@ -169,6 +169,7 @@ impl<V: Copy + Drop> Dictionary<V> {
     pub fn look_up(&mut self, name: &str) -> Option<V>
         ensures value { result ≡ newest_value self.old.pairs name.now }
         ensures pairs { self.new.pairs ≡ self.old.pairs }
+        ensures risen { self.old.looks ≤ self.new.looks }
         ensures looks { self.new.looks ≤ self.old.looks + number_of_names (has_bucket (bucket name.now)) (names_of self.old.pairs) }
     {
         let head = self.heads[bucket_of(name) as usize];

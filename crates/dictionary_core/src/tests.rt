@@ -1,5 +1,6 @@
 // Small dictionaries, where memory is ample.
 use crate::{AddRefusal, Dictionary, bucket_of};
+use forth_reader::Names;
 use std::test::Fail;
 
 #[test]
@@ -13,6 +14,7 @@ fn finds_the_newest(rt: HostRuntime) -> Result<(), Fail> {
     assert_eq!(rt; words.find("B"), Some((1, &1)));
     assert_eq!(rt; words.looks(), 1);
     assert_eq!(rt; words.find("A"), Some((2, &2)));
+    assert_eq!(rt; words.len(), 3);
     assert_eq!(rt; words.older(2), Some(0));
     assert_eq!(rt; words.head(2), Some(1));
     let all = words.mark();
@@ -36,5 +38,17 @@ fn forgets_and_fills(rt: HostRuntime) -> Result<(), Fail> {
         assert_eq!(rt; words.add("X", place), Ok(u32::from(place)));
     }
     assert_eq!(rt; words.add("Y", 512), Err((AddRefusal::Full, 512)));
+    Ok(())
+}
+
+#[test]
+fn counts_looks(rt: HostRuntime) -> Result<(), Fail> {
+    let mut names = Names::new(rt.alloc())?;
+    names.push("A")?;
+    assert_eq!(rt; names.looks(), 0);
+    assert!(rt; names.same(0, "a"));
+    assert_eq!(rt; names.looks(), 1);
+    names.cut(0);
+    assert_eq!(rt; names.looks(), 1);
     Ok(())
 }

@@ -1,7 +1,7 @@
 -- Small programs whose runs and prices the checker computes from the definitions.
 use Rattle.std.proofs.Common.{◌≡◌, ℕ, ◌+◌, ◌*◌, List, [], ◌∷◌, Option, Some, None, refl, true, false}
 use Rattle.std.specs.Prelude.{codes}
-use Rattle.word_table.specs.declared.word.Word.TheVariants.{Emit, SlashMod, Slash, Dot, Index, OuterIndex, Plus, Store, Key, Base, QDup, Dup, OneMinus, ToR, DropTop, LessSharp, Sharp, SharpS, SharpGreater, Hold, TypeOut, Execute, Equal, Unloop, Here, CComma, CFetch, Accept, CStore, Fetch, Move, Loop, PlusLoop, SQuote, DotQuote, AbortQuote}
+use Rattle.word_table.specs.declared.word.Word.TheVariants.{Within, NotEqual, ZeroGreater, Nip, Tuck, Emit, SlashMod, Slash, Dot, Index, OuterIndex, Plus, Store, Key, Base, QDup, Dup, OneMinus, ToR, DropTop, LessSharp, Sharp, SharpS, SharpGreater, Hold, TypeOut, Execute, Equal, Unloop, Here, CComma, CFetch, Accept, CStore, Fetch, Move, Loop, PlusLoop, SQuote, DotQuote, AbortQuote}
 use Rattle.forth_program.specs.declared.item.TextKind.TheVariants as text
 use Rattle.forth_program.specs.Tree.{Node, Nodes, Literal, Plain, Call, Text, If, While, Do, Leave, Exit, Empty, Then}
 use Rattle.forth_program.specs.State.{End, Halted, InputEnded, Outside, Underflow, Unbalanced, Outcome}
@@ -128,6 +128,11 @@ last_byte = refl
 stops_with_text : seen (source_run (main (Plain Here ∷ Literal 9 ∷ Plain Accept ∷ Text text.Abort 8320 3 ∷ [])) (codes "Bye\n.") 20) ≡ (Some (Halted 2), codes "Bye")
 unfolding source_run steps step
 stops_with_text = refl
+
+-- 5 1 10 WITHIN . 5 5 <> . 3 0> . 1 2 NIP . 1 2 TUCK . . .
+core_extension : seen (source_run (main (Literal 5 ∷ Literal 1 ∷ Literal 10 ∷ Plain Within ∷ Plain Dot ∷ Literal 5 ∷ Literal 5 ∷ Plain NotEqual ∷ Plain Dot ∷ Literal 3 ∷ Plain ZeroGreater ∷ Plain Dot ∷ Literal 1 ∷ Literal 2 ∷ Plain Nip ∷ Plain Dot ∷ Literal 1 ∷ Literal 2 ∷ Plain Tuck ∷ Plain Dot ∷ Plain Dot ∷ Plain Dot ∷ [])) [] 23) ≡ (Some (Halted 0), codes "-1 0 -1 2 2 1 2 ")
+unfolding source_run steps step
+core_extension = refl
 
 looks_for_depth : uses_depth greeting ≡ false
 looks_for_depth = refl

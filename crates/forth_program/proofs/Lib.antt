@@ -3,11 +3,11 @@ pub mod Views
 pub mod RunLaws
 pub mod WordGrowth
 pub mod StepGrowth
-mod Testing
-mod Vectors0
-mod Vectors1
-mod Vectors2
-mod Vectors3
-mod Vectors4
-mod Programs
-mod Random1
+mod Rows
+mod StackVectors
+mod ArithmeticVectors
+mod MemoryVectors
+mod ConsoleVectors
+mod ProgramVectors
+mod StructureVectors
+mod ExtensionVectors

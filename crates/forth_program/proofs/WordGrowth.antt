@@ -8,7 +8,7 @@ use Rattle.console_ports.specs.Ports.{access_at, even}
 use Rattle.cell_math.specs.Cell.{sum_of, difference_of, signed, double, signed_double}
 use Rattle.cell_math.specs.Divisions.{Division, unsigned_division, floored_division, symmetric_division}
 use Rattle.word_table.specs.declared.word.Word.{Word}
-use Rattle.word_table.specs.declared.word.Word.TheVariants.{QDup, Fetch, Store, CFetch, CStore, PlusStore, TwoFetch, TwoStore, Count, Here, Comma, CComma, Allot, Align, Decimal}
+use Rattle.word_table.specs.declared.word.Word.TheVariants.{QDup, Fetch, Store, CFetch, CStore, PlusStore, TwoFetch, TwoStore, Count, Here, Comma, CComma, Allot, Align, Decimal, Hex}
 use Rattle.word_table.specs.declared.word.Word.TheVariants.{Emit, Key, Cr, Space, Spaces, TypeOut, Fill, Move, Accept, ToNumber}
 use Rattle.word_table.specs.declared.word.Word.TheVariants.{UMSlashMod, SMSlashRem, FMSlashMod, SlashMod, Slash, Mod, StarSlashMod, StarSlash}
 use Rattle.word_table.specs.declared.word.Word.TheVariants.{LessSharp, Hold, Sign, Sharp, SharpS, SharpGreater, Dot, UDot}
@@ -212,6 +212,7 @@ meaning_later TwoStore (a ∷ y ∷ x ∷ c) w = bind w (store a y w) _ (store_l
 meaning_later Count (a ∷ c) w = gives w (fetch_byte a w) _ (fetch_byte_later a w)
 meaning_later Here c w = gives w (here w) _ (here_later w)
 meaning_later Decimal c w = gives w (store w.data_start 10 w) _ (store_later w.data_start 10 w)
+meaning_later Hex c w = gives w (store w.data_start 16 w) _ (store_later w.data_start 16 w)
 meaning_later Comma (x ∷ c) w = bind w (here w) _ (here_later w) (λ h w. bind w (store h x w) _ (store_later h x w) (λ _ w. gives w (grow_here 2 w) _ (grow_later 2 w)))
 meaning_later CComma (x ∷ c) w = bind w (here w) _ (here_later w) (λ h w. bind w (store_byte h x w) _ (store_byte_later h x w) (λ _ w. gives w (grow_here 1 w) _ (grow_later 1 w)))
 meaning_later Allot (n ∷ c) w = gives w (grow_here n w) _ (grow_later n w)

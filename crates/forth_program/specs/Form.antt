@@ -1,5 +1,5 @@
 -- What holds of each program.
-use Rattle.std.specs.Prelude.{◌≡◌, ℕ, ◌-◌, ◌%◌, ◌<◌, ◌≤◌, nat_lt, Bool, true, false, ◌&&◌, length, IsTrue}
+use Rattle.std.specs.Prelude.{◌≡◌, ℕ, suc, ◌-◌, ◌%◌, ◌<◌, ◌≤◌, nat_lt, Bool, true, false, ◌&&◌, List, [], ◌∷◌, length, IsTrue}
 use Rattle.std.specs.List.{list_all}
 use Rattle.word_table.specs.declared.word.Word.TheVariants.{ToR, RFrom, RFetch, Index, OuterIndex, Unloop, Execute}
 use Rattle.word_table.specs.declared.word.Class.{Class}
@@ -39,6 +39,11 @@ abbrev pub has_id_below : ℕ → Node → Bool
 has_id_below count (Call definition) = nat_lt definition count
 has_id_below count (Child definition address) = nat_lt definition count
 has_id_below count node = true
+
+-- each call leads to the definition in which it stands, or to one before it; these definitions are those from a number on
+abbrev pub calls_go_back : ℕ → List Nodes → Bool
+calls_go_back definition [] = true
+calls_go_back definition (body ∷ bodies) = everywhere (has_id_below (suc definition)) body && calls_go_back (suc definition) bodies
 
 -- inline and library words
 abbrev pub is_code_class : Class → Bool

@@ -6,9 +6,12 @@ pub mod PicturedOutput
 pub mod Meaning
 pub mod Program
 pub mod Step
+pub mod SourceTokens
 pub mod Tail
 pub mod Run
+pub mod Heights
 pub mod Price
+pub mod Cells
 pub mod Weight
 pub mod RunLaws
 pub mod ItemTrees

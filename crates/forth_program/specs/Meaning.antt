@@ -1,13 +1,13 @@
 -- The meaning of each table word that touches data cells and the world alone: what it takes, what it leaves, and its
 -- accesses in their order. Cells stand with the top first, so `x y -- y x` goes from `y ∷ x ∷ c` to `x ∷ y ∷ c`.
--- From the Core words of ANS Forth (X3.215-1994, section 6.1) on cells of 16 bits, addresses in bytes, and flags 0 and 65535.
-use Rattle.std.specs.Prelude.{ℕ, zero, suc, ◌+◌, ◌-◌, ◌*◌, ◌/◌, ◌%◌, ◌^◌, ◌==◌, nat_lt, false, if◌then◌else◌, List, ◌∷◌, length, bit_and, bit_or, bit_xor, Some, None}
+-- From the Core words of ANS Forth (X3.215-1994, sections 6.1 and 6.2) on cells of 16 bits, addresses in bytes, and flags 0 and 65535.
+use Rattle.std.specs.Prelude.{ℕ, zero, suc, ◌+◌, ◌-◌, ◌*◌, ◌/◌, ◌%◌, ◌^◌, ◌==◌, nat_lt, false, not, if◌then◌else◌, List, ◌∷◌, length, bit_and, bit_or, bit_xor, Some, None}
 use Rattle.std.specs.Prelude.{pos, ◌*ℤ◌, int_lt, unsigned_abs}
 use Rattle.word_table.specs.declared.word.Word.{Word}
-use Rattle.word_table.specs.declared.word.Word.TheVariants.{Dup, DropTop, Swap, Over, Rot, TwoDup, TwoDrop, QDup, TwoSwap, TwoOver}
+use Rattle.word_table.specs.declared.word.Word.TheVariants.{Dup, DropTop, Swap, Over, Rot, TwoDup, TwoDrop, Nip, Tuck, QDup, TwoSwap, TwoOver}
 use Rattle.word_table.specs.declared.word.Word.TheVariants.{Plus, Minus, Negate, OnePlus, OneMinus, TwoStar, And, Or, Xor, Invert, LShift, RShift, TwoSlash, Abs, Max, Min}
-use Rattle.word_table.specs.declared.word.Word.TheVariants.{Equal, Less, Greater, ULess, ZeroEqual, ZeroLess, SToD, Cells, CellPlus, Chars, CharPlus, Aligned, Blank, Base, Depth}
-use Rattle.word_table.specs.declared.word.Word.TheVariants.{Fetch, Store, CFetch, CStore, PlusStore, TwoFetch, TwoStore, Count, Here, Comma, CComma, Allot, Align, Decimal}
+use Rattle.word_table.specs.declared.word.Word.TheVariants.{Equal, NotEqual, Less, Greater, ULess, ZeroEqual, ZeroLess, ZeroGreater, Within, SToD, Cells, CellPlus, Chars, CharPlus, Aligned, Blank, Base, Depth}
+use Rattle.word_table.specs.declared.word.Word.TheVariants.{Fetch, Store, CFetch, CStore, PlusStore, TwoFetch, TwoStore, Count, Here, Comma, CComma, Allot, Align, Decimal, Hex}
 use Rattle.word_table.specs.declared.word.Word.TheVariants.{Emit, Key, Cr, Space, Spaces, TypeOut, Fill, Move, Accept, ToNumber, AbortRun, Quit}
 use Rattle.word_table.specs.declared.word.Word.TheVariants.{UMStar, MStar, Star, UMSlashMod, SMSlashRem, FMSlashMod, SlashMod, Slash, Mod, StarSlashMod, StarSlash}
 use Rattle.word_table.specs.declared.word.Word.TheVariants.{LessSharp, Hold, Sign, Sharp, SharpS, SharpGreater, Dot, UDot}
@@ -60,6 +60,8 @@ meaning Over (y ∷ x ∷ c) w = Gives (x ∷ y ∷ x ∷ c) w
 meaning Rot (z ∷ y ∷ x ∷ c) w = Gives (x ∷ z ∷ y ∷ c) w
 meaning TwoDup (y ∷ x ∷ c) w = Gives (y ∷ x ∷ y ∷ x ∷ c) w
 meaning TwoDrop (y ∷ x ∷ c) w = Gives c w
+meaning Nip (y ∷ x ∷ c) w = Gives (y ∷ c) w
+meaning Tuck (y ∷ x ∷ c) w = Gives (y ∷ x ∷ y ∷ c) w
 meaning QDup (zero ∷ c) w = Gives (zero ∷ c) w
 meaning QDup (suc x ∷ c) w = Gives (suc x ∷ suc x ∷ c) w
 meaning TwoSwap (w' ∷ z ∷ y ∷ x ∷ c) w = Gives (y ∷ x ∷ w' ∷ z ∷ c) w
@@ -83,11 +85,14 @@ meaning Invert (x ∷ c) w = Gives ((65535 - x) ∷ c) w
 meaning LShift (u ∷ x ∷ c) w = Gives (x * 2 ^ (u % 16) % 65536 ∷ c) w
 meaning RShift (u ∷ x ∷ c) w = Gives (x / 2 ^ (u % 16) ∷ c) w
 meaning Equal (y ∷ x ∷ c) w = Gives (flag (x == y) ∷ c) w
+meaning NotEqual (y ∷ x ∷ c) w = Gives (flag (not (x == y)) ∷ c) w
 meaning Less (y ∷ x ∷ c) w = Gives (flag (int_lt (signed x) (signed y)) ∷ c) w
 meaning Greater (y ∷ x ∷ c) w = Gives (flag (int_lt (signed y) (signed x)) ∷ c) w
 meaning ULess (y ∷ x ∷ c) w = Gives (flag (nat_lt x y) ∷ c) w
 meaning ZeroEqual (x ∷ c) w = Gives (flag (x == 0) ∷ c) w
 meaning ZeroLess (x ∷ c) w = Gives (flag (int_lt (signed x) (pos 0)) ∷ c) w
+meaning ZeroGreater (x ∷ c) w = Gives (flag (int_lt (pos 0) (signed x)) ∷ c) w
+meaning Within (b ∷ a ∷ u ∷ c) w = Gives (flag (nat_lt (difference_of u a) (difference_of b a)) ∷ c) w
 meaning SToD (x ∷ c) w = Gives (put (double_of (signed x)) c) w
 meaning Cells (x ∷ c) w = Gives (2 * x % 65536 ∷ c) w
 meaning CellPlus (x ∷ c) w = Gives (sum_of x 2 ∷ c) w
@@ -119,6 +124,7 @@ meaning Blank c w = Gives (32 ∷ c) w
 meaning Base c w = Gives (w.data_start ∷ c) w
 meaning Here c w = here w ▸ λ h. Gives (h ∷ c)
 meaning Decimal c w = store w.data_start 10 w ▸ λ _. Gives c
+meaning Hex c w = store w.data_start 16 w ▸ λ _. Gives c
 meaning Comma (x ∷ c) w = here w ▸ λ h w. store h x w ▸ λ _ w. grow_here 2 w ▸ λ _. Gives c
 meaning CComma (x ∷ c) w = here w ▸ λ h w. store_byte h x w ▸ λ _ w. grow_here 1 w ▸ λ _. Gives c
 meaning Allot (n ∷ c) w = grow_here n w ▸ λ _. Gives c

@@ -1,7 +1,7 @@
 -- Runs of at most k word steps.
-use Rattle.std.specs.Prelude.{ℕ, zero, suc, ◌-◌, ◌/◌, List, [], Option, Some, None}
+use Rattle.std.specs.Prelude.{ℕ, zero, suc, ◌-◌, ◌/◌, Bool, true, false, List, [], Option, Some, None}
 use Rattle.cell_math.specs.Bytes.{cells_of_bytes, filled}
-use Rattle.forth_program.specs.State.{World, State, End, Outcome, Goes, Ends}
+use Rattle.forth_program.specs.State.{World, State, End, Underflow, Unbalanced, Outcome, Goes, Ends}
 use Rattle.forth_program.specs.Program.{SourceProgram, body_of}
 use Rattle.forth_program.specs.Step.{before, step}
 
@@ -42,3 +42,10 @@ world_of (Ends end world) = world
 abbrev pub end_of : Outcome → Option End
 end_of (Goes s) = None
 end_of (Ends end world) = Some end
+
+-- a run that has ended because too few cells or other entries were found
+abbrev pub lacks : Outcome → Bool
+lacks (Goes s) = false
+lacks (Ends Underflow world) = true
+lacks (Ends Unbalanced world) = true
+lacks (Ends end world) = false

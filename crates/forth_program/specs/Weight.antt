@@ -49,3 +49,9 @@ abbrev mutual
 abbrev pub bodies_weight : List Nodes → ℕ
 bodies_weight [] = 0
 bodies_weight (body ∷ bodies) = weight body + 1 + bodies_weight bodies
+
+-- what the first tick of an execution token adds, for its jump and the code of its own: for a word, what its cells take and 2 more
+abbrev pub token_weight : Node → ℕ
+token_weight (Call definition) = 1
+token_weight (Plain word) = 2 + (entry_of word).weight
+token_weight node = 5

@@ -2,6 +2,7 @@
 ghost use Rattle.std.specs.Prelude.{◌≡◌, ◌-◌, ◌<◌, ◌≤◌, map, length, slice_index_or, [], IfOk};
 ghost use Rattle.forth_program.specs.Form.{IsDataStart, IsProgram};
 ghost use Rattle.forth_program.specs.ItemTrees.{tree_of};
+ghost use Rattle.forth_program.specs.Name.{IsName};
 ghost use Rattle.forth_program.specs.Parts.{program_of, token_node};
 ghost use Rattle.forth_program.specs.Program.{body_of, uses_depth as depth_is_used};
 
@@ -96,7 +97,8 @@ impl Program {
     /// The name of a definition.
     pub fn name(&self, id: DefId) -> &str
         requires { id.0 < length self.now.bodies }
-        ensures { result.now ≡ slice_index_or self.now.names id.0 [] }
+        ensures value { result.now ≡ slice_index_or self.now.names id.0 [] }
+        ensures form { IsName result.now }
     {
         self.parts.names[id.0 as usize].as_str()
     }

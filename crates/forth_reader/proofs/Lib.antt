@@ -1,6 +1,8 @@
 pub mod Digits
 pub mod Examples
+pub mod Calls
 pub mod Fronts
+pub mod TokenKinds
 pub mod ReadingToSplitting
 pub mod SplittingToReading
 pub mod Steps

@@ -206,10 +206,10 @@ pub next_exists : (k : ℕ) (text : List ℕ) → NextIs k text (next_from k tex
 unfolding AtText
 next_exists k text = (splittings text).text k
 
-name_alone : {k : ℕ} {text : List ℕ} {reading : Reading} → NameAt k text reading → NameIs k text reading
+pub name_alone : {k : ℕ} {text : List ℕ} {reading : Reading} → NameAt k text reading → NameIs k text reading
 name_alone {text = text} stands = record { blanks = []; rest = text; are_blank = refl; text_is = refl; stands = stands }
 
-name_behind : {k : ℕ} {text : List ℕ} {reading : Reading} (b : ℕ) → is_blank b ≡ true → NameIs k text reading → NameIs k (b ∷ text) reading
+pub name_behind : {k : ℕ} {text : List ℕ} {reading : Reading} (b : ℕ) → is_blank b ≡ true → NameIs k text reading → NameIs k (b ∷ text) reading
 name_behind b e is = record { blanks = b ∷ is.blanks; rest = is.rest; are_blank = ap (λ t. t && list_all is_blank (is.blanks)) e ∙ is.are_blank; text_is = ap (λ l. b ∷ l) (is.text_is); stands = is.stands }
 
 name_at_run : (b : ℕ) (bs : List ℕ) (k : ℕ) → is_graphic b ≡ true → NameIs k (b ∷ bs) (name_from k (b ∷ bs))

@@ -1,114 +1,150 @@
--- Each text has one list of tokens.
-use Rattle.std.proofs.Common.{◌≡◌, ℕ, zero, suc, ◌+◌, ◌-◌, ◌<◌, ◌≤◌, List, [], ◌∷◌, length, refl, ap, sym, ◌∙◌, arith, subst, length-append, None}
-use Rattle.forth_reader.specs.Reading.{Reading, NoMore, Reads, Refuses, next_from}
-use Rattle.forth_reader.specs.Splitting.{Piece, Blank, Parenthesis, Line, pieces_then, RunIs, is_read, NextAt, run, NextIs}
-use Rattle.forth_reader.specs.declared.refusal.ReadRefusal.{ReadRefusal}
-use Rattle.forth_reader.specs.ReaderState.{ReaderState, unless_failed, next_reading, Took, Ended, Failed}
-use Rattle.forth_reader.specs.TokenList.{PlacedToken, IsLast, AreTokensFrom, AreTokens, started, Gave}
-use Rattle.forth_reader.proofs.SplittingToReading.{next_computed}
-use Rattle.forth_reader.proofs.ReadingToSplitting.{next_exists}
+-- Each text has one list of tokens, whichever are read as names.
+use Rattle.std.proofs.Common.{◌≡◌, ℕ, zero, suc, ◌+◌, ◌-◌, ◌<◌, ◌≤◌, Bool, List, [], ◌∷◌, length, Option, refl, ap, sym, ◌∙◌, arith, subst, length-append}
+use Rattle.forth_reader.specs.declared.refusal.ReadCause.{ReadCause}
+use Rattle.forth_reader.specs.Reading.{Reading, NoMore, Reads, Refuses, Quoted, name_from}
+use Rattle.forth_reader.specs.Splitting.{RunIs, is_read, NameAt, nothing, run, NameIs, StringIs, closed}
+use Rattle.forth_reader.specs.TokenList.{PlacedToken, TokensEnd, AllRead, Faulty, Kind, kind_of, After, Passes, Fails, Behind, plain, comment, line, line_at_end, string, IsTokenAt, EndIs, all_read, refused, fails_behind, AreTokensFrom, HasTokens, HasNoOtherTokens}
+use Rattle.forth_reader.proofs.SplittingToReading.{name_computed}
+use Rattle.forth_reader.proofs.ReadingToSplitting.{name_exists}
+use Rattle.forth_reader.proofs.TokenKinds.{after_of, behind_computed, behind_exists}
 
-pieces_longer : (pieces : List Piece) (rest : List ℕ) → length rest ≤ length (pieces_then pieces rest)
-pieces_longer [] rest = omega arith
-pieces_longer (Blank b ∷ pieces) rest = omega (arith, pieces_longer pieces rest)
-pieces_longer (Parenthesis text ∷ pieces) rest = omega (arith, pieces_longer pieces rest, length-append text (41 ∷ pieces_then pieces rest))
-pieces_longer (Line text ∷ pieces) rest = omega (arith, pieces_longer pieces rest, length-append text (10 ∷ pieces_then pieces rest))
+-- ---- a token takes bytes
 
--- the token and what is behind it are a part of the text, and the token is some
-record IsPart (text token rest : List ℕ) : Type 0 where
-  some : 0 < length token
-  within : length token + length rest ≤ length text
+pub record IsPart (text token rest : List ℕ) : Type 0 where
+  pub some : 0 < length token
+  pub within : length token + length rest ≤ length text
 
-run_rest : {number other : ℕ} {token found behind rest : List ℕ} → RunIs number found behind (Reads token other rest) → (found ≡ token) × (behind ≡ rest)
-run_rest (is_read rest follows short) = (refl, refl)
+pub run_rest : {number other : ℕ} {token found behind rest : List ℕ} → RunIs number found behind (Reads token other rest) → (found ≡ token) × (behind ≡ rest) × (other ≡ number)
+run_rest (is_read rest follows short) = (refl, refl, refl)
 
-read_part : {k number : ℕ} {text token rest : List ℕ} → NextAt k text (Reads token number rest) → IsPart text token rest
-read_part (run found behind reading is p q of_run) =
-    let same : (found ≡ _) × (behind ≡ _) = run_rest of_run in
+name_part : {k number : ℕ} {text token rest : List ℕ} → NameAt k text (Reads token number rest) → IsPart text token rest
+name_part (run found behind reading is of_run) =
+    let same : (found ≡ _) × (behind ≡ _) × (_ ≡ _) = run_rest of_run in
     record { some = omega (arith, is.some, ap length (same.0)); within = omega (arith, length-append found behind, ap length (same.0), ap length (same.1)) }
 
-is_part : (k number : ℕ) (text token rest : List ℕ) → NextIs k text (Reads token number rest) → IsPart text token rest
-is_part k number text token rest is =
-    let part : IsPart (is.rest) token rest = read_part (is.stands) in
-    record { some = part.some; within = omega (arith, part.within, ap length (is.text_is), pieces_longer (is.pieces) (is.rest)) }
+pub is_part : {k number : ℕ} {text token rest : List ℕ} → NameIs k text (Reads token number rest) → IsPart text token rest
+is_part {token = token} {rest = rest} is =
+    let part : IsPart (is.rest) token rest = name_part (is.stands) in
+    record { some = part.some; within = omega (arith, part.within, ap length (is.text_is), length-append is.blanks is.rest) }
 
-record HasTokensFrom (size k : ℕ) (text : List ℕ) : Type 0 where
-  tokens : List PlacedToken
-  last : Reading
-  are_tokens : AreTokensFrom size k text tokens last
+string_shorter : {behind : List ℕ} {text rest : List ℕ} → StringIs behind (Quoted text rest) → length rest ≤ length behind
+string_shorter (closed separator text rest is) = omega (arith, length-append text (34 ∷ rest))
 
-one_more_token : (size k : ℕ) (text token : List ℕ) (number : ℕ) (rest : List ℕ) → length text ≤ size → NextIs k text (Reads token number rest) → HasTokensFrom size number rest → HasTokensFrom size k text
-one_more_token size k text token number rest small is more =
-    let part : IsPart text token rest = is_part k number text token rest is in
-    record {
-      tokens = record { token = token; start = size - length token - length rest; number = number } ∷ more.tokens;
-      last = more.last;
-      are_tokens = (rest, (record { reads = is; starts = omega (arith, part.within) }, more.are_tokens));
-    }
+pub behind_shorter : {kind : Kind} {behind skipped rest : List ℕ} {text : Option (List ℕ)} → Behind kind behind (Passes skipped text rest) → length rest ≤ length behind
+behind_shorter (plain rest) = omega arith
+behind_shorter (comment text rest all) = omega (arith, length-append text (41 ∷ rest))
+behind_shorter (line text rest all) = omega (arith, length-append text (10 ∷ rest))
+behind_shorter (line_at_end text all) = omega arith
+behind_shorter (string behind text rest is) = string_shorter is
 
-by_reading : (size k : ℕ) (text : List ℕ) (reading : Reading) → length text ≤ size → NextIs k text reading → ((token : List ℕ) (number : ℕ) (rest : List ℕ) → reading ≡ Reads token number rest → HasTokensFrom size number rest) → HasTokensFrom size k text
-by_reading size k text (NoMore tokens) small is more = record { tokens = []; last = NoMore tokens; are_tokens = (tt, is) }
-by_reading size k text (Refuses number cause) small is more = record { tokens = []; last = Refuses number cause; are_tokens = (tt, is) }
-by_reading size k text (Reads token number rest) small is more = one_more_token size k text token number rest small is (more token number rest refl)
+no_more_at : {k tokens : ℕ} {rest : List ℕ} → NameAt k rest (NoMore tokens) → tokens ≡ k
+no_more_at nothing = refl
+no_more_at (run token rest reading is of_run) = elim of_run [ ]
 
-tokens_exist : (fuel size k : ℕ) (text : List ℕ) → length text < fuel → length text ≤ size → HasTokensFrom size k text
-tokens_exist zero size k text short small = absurd (omega arith)
-tokens_exist (suc fuel) size k text short small = by_reading size k text (next_from k text) small (next_exists k text) (λ token number rest e.
-    let part : IsPart text token rest = is_part k number text token rest (subst (NextIs k text) e (next_exists k text)) in
-    tokens_exist fuel size number rest (omega (arith, part.some, part.within)) (omega (arith, part.some, part.within)))
+pub no_more_is : {k tokens : ℕ} {text : List ℕ} → NameIs k text (NoMore tokens) → tokens ≡ k
+no_more_is is = no_more_at is.stands
 
-pub text_has_tokens : (text : List ℕ) → (tokens : List PlacedToken) × ((last : Reading) × AreTokens text tokens last)
-text_has_tokens text =
-    let found : HasTokensFrom (length text) 0 text = tokens_exist (length text + 1) (length text) 0 text (omega arith) (omega arith) in
-    (found.tokens, (found.last, found.are_tokens))
+module _ (named : ℕ → Bool) where
+  -- ---- there is one
 
--- two splittings of one text read the same
-one_reading : (k : ℕ) (text : List ℕ) (a b : Reading) → NextIs k text a → NextIs k text b → a ≡ b
-one_reading k text a b is other = next_computed k text a is ∙ sym (next_computed k text b other)
+  record HasTokensFrom (size k : ℕ) (text : List ℕ) : Type 0 where
+    tokens : List PlacedToken
+    end : TokensEnd
+    are : AreTokensFrom named size k text tokens end
 
-no_last : (token : List ℕ) (number : ℕ) (rest : List ℕ) (last : Reading) → IsLast last → last ≡ Reads token number rest → ⊥
-no_last token number rest (NoMore tokens) is e = cc
-no_last token number rest (Refuses n cause) is e = cc
-no_last token number rest (Reads t n r) is e = is
+  module _ (size k : ℕ) (text : List ℕ) (small : length text ≤ size) where
+    by_after : (token : List ℕ) (number : ℕ) (behind : List ℕ) (after : After) → NameIs k text (Reads token number behind) → Behind (kind_of (named number) token) behind after →
+        ((rest : List ℕ) → length rest < length text → HasTokensFrom size number rest) → HasTokensFrom size k text
+    by_after token number behind (Passes skipped text' rest) is stands more =
+        let part : IsPart text token behind = is_part is in
+        let others : HasTokensFrom size number rest = more rest (omega (arith, part.some, part.within, behind_shorter stands)) in
+        record {
+          tokens = record { token = token; start = size - length token - length behind; number = number; skipped = skipped; string = text' } ∷ others.tokens;
+          end = others.end;
+          are = (rest, (record { behind = behind; reads = is; starts = omega (arith, part.within, small); stands = stands }, others.are));
+        }
+    by_after token number behind (Fails c) is stands more = record { tokens = []; end = Faulty number c; are = fails_behind token number behind c is stands }
 
-same_parts : {s t : List ℕ} {m n : ℕ} {a b : List ℕ} → Reads s m a ≡ Reads t n b → (s ≡ t) × (m ≡ n) × (a ≡ b)
-same_parts e = (cc, cc, cc)
+    by_reading : (reading : Reading) → NameIs k text reading → ((number : ℕ) (rest : List ℕ) → length rest < length text → HasTokensFrom size number rest) → HasTokensFrom size k text
+    by_reading (NoMore tokens) is more = record { tokens = []; end = AllRead k; are = all_read (subst (λ n. NameIs k text (NoMore n)) (no_more_is is) is) }
+    by_reading (Refuses number c) is more = record { tokens = []; end = Faulty number c; are = refused number c is }
+    by_reading (Reads token number behind) is more = by_after token number behind (after_of (kind_of (named number) token) behind) is (behind_exists (kind_of (named number) token) behind) (more number)
 
-same_token : (t u : PlacedToken) → t.token ≡ u.token → t.start ≡ u.start → t.number ≡ u.number → t ≡ u
-same_token t u e f g = ap (λ x. record { token = x; start = t.start; number = t.number }) e ∙ ap (λ x. record { token = u.token; start = x; number = t.number }) f ∙ ap (λ x. record { token = u.token; start = u.start; number = x }) g
+  tokens_exist : (fuel size k : ℕ) (text : List ℕ) → length text < fuel → length text ≤ size → HasTokensFrom size k text
+  tokens_exist zero size k text short small = absurd (omega arith)
+  tokens_exist (suc fuel) size k text short small = by_reading size k text small (name_from k text) (name_exists k text) (λ number rest less. tokens_exist fuel size number rest (omega (arith, less)) (omega (arith, less)))
 
-tokens_same : (size k : ℕ) (text : List ℕ) (tokens others : List PlacedToken) (last end : Reading) → AreTokensFrom size k text tokens last → AreTokensFrom size k text others end → (tokens ≡ others) × (last ≡ end)
-tokens_same size k text [] [] last end is other = (refl, one_reading k text last end (is.1) (other.1))
-tokens_same size k text [] (u ∷ others) last end is other = absurd (no_last (u.token) (u.number) (other.0) last (is.0) (one_reading k text last (Reads (u.token) (u.number) (other.0)) (is.1) (other.1.0.reads)))
-tokens_same size k text (t ∷ tokens) [] last end is other = absurd (no_last (t.token) (t.number) (is.0) end (other.0) (one_reading k text end (Reads (t.token) (t.number) (is.0)) (other.1) (is.1.0.reads)))
-tokens_same size k text (t ∷ tokens) (u ∷ others) last end is other =
-    let e : Reads (t.token) (t.number) (is.0) ≡ Reads (u.token) (u.number) (other.0) = one_reading k text (Reads (t.token) (t.number) (is.0)) (Reads (u.token) (u.number) (other.0)) (is.1.0.reads) (other.1.0.reads) in
-    let same : (t.token ≡ u.token) × (t.number ≡ u.number) × (is.0 ≡ other.0) = same_parts e in
-    let starts : t.start ≡ u.start = omega (arith, is.1.0.starts, other.1.0.starts, ap length (same.0), ap length (same.2)) in
-    let others_are : AreTokensFrom size (t.number) (is.0) others end = subst (λ n. AreTokensFrom size n (is.0) others end) (sym (same.1)) (subst (λ l. AreTokensFrom size (u.number) l others end) (sym (same.2)) (other.1.1)) in
-    let more : (tokens ≡ others) × (last ≡ end) = tokens_same size (t.number) (is.0) tokens others last end (is.1.1) others_are in
-    (ap (λ x. x ∷ tokens) (same_token t u (same.0) starts (same.1)) ∙ ap (λ l. u ∷ l) (more.0), more.1)
+  -- ---- and no other
 
-pub no_other_tokens : (text : List ℕ) (tokens others : List PlacedToken) (last end : Reading) → AreTokens text tokens last → AreTokens text others end → (tokens ≡ others) × (last ≡ end)
-no_other_tokens text tokens others last end is other = tokens_same (length text) 0 text tokens others last end is other
+  one_reading : {k : ℕ} {text : List ℕ} {a b : Reading} → NameIs k text a → NameIs k text b → a ≡ b
+  one_reading {k = k} {text = text} {a = a} {b = b} is other = name_computed k text a is ∙ sym (name_computed k text b other)
 
--- a reader that has refused nothing reads what its place gives
-reads_place : (state : ReaderState) (reading : Reading) → state.failed ≡ None → next_reading state ≡ reading → NextIs (state.count) (state.rest) reading
-reads_place state reading sound e =
-    let reads : next_from (state.count) (state.rest) ≡ reading = sym (ap (λ f. unless_failed f (next_from (state.count) (state.rest))) sound) ∙ e in
-    subst (NextIs (state.count) (state.rest)) reads (next_exists (state.count) (state.rest))
+  one_after : {kind : Kind} {behind : List ℕ} {a b : After} → Behind kind behind a → Behind kind behind b → a ≡ b
+  one_after is other = sym (behind_computed is) ∙ behind_computed other
 
-gave_tokens : (size : ℕ) (before after : ReaderState) (tokens : List PlacedToken) (last : Reading) → before.failed ≡ None → length (before.text) ≡ size → Gave before tokens after → IsLast last → next_reading after ≡ last → AreTokensFrom size (before.count) (before.rest) tokens last
-gave_tokens size before after [] last sound sized gave is e = (is, reads_place before last sound (ap next_reading gave ∙ e))
-gave_tokens size before after (t ∷ tokens) last sound sized gave is e =
-    let between : ReaderState = gave.0 in
-    let took : Took before between (next_reading before) (t.token) (t.start) (t.number) = gave.1.0 in
-    let counted : between.count ≡ t.number = ap (λ s. let x : ReaderState = s in x.count) (took.new_is) in
-    let more : AreTokensFrom size (between.count) (between.rest) tokens last = gave_tokens size between after tokens last (ap (λ s. let x : ReaderState = s in x.failed) (took.new_is) ∙ sound) (ap (λ s. let x : ReaderState = s in length (x.text)) (took.new_is) ∙ sized) (gave.1.1) is e in
-    (between.rest, (record { reads = reads_place before (Reads (t.token) (t.number) (between.rest)) sound (took.reading_is); starts = took.starts ∙ sized }, subst (λ n. AreTokensFrom size n (between.rest) tokens last) counted more))
+  same_parts : {s t : List ℕ} {m n : ℕ} {a b : List ℕ} → Reads s m a ≡ Reads t n b → (s ≡ t) × (m ≡ n) × (a ≡ b)
+  same_parts e = (cc, cc, cc)
 
-pub calls_end : (text : List ℕ) (tokens : List PlacedToken) (after new : ReaderState) → Gave (started text) tokens after → Ended after new (next_reading after) → AreTokens text tokens (NoMore (new.count))
-calls_end text tokens after new gave ended = gave_tokens (length text) (started text) after tokens (NoMore (new.count)) refl refl gave tt (ended.reading_is)
+  same_after : {s t a b : List ℕ} {x y : Option (List ℕ)} → Passes s x a ≡ Passes t y b → (s ≡ t) × (x ≡ y) × (a ≡ b)
+  same_after e = (cc, cc, cc)
 
-pub calls_refuse : (text : List ℕ) (tokens : List PlacedToken) (after new : ReaderState) (refusal : ReadRefusal) → Gave (started text) tokens after → Failed after new (next_reading after) refusal → AreTokens text tokens (Refuses (refusal.token) (refusal.cause))
-calls_refuse text tokens after new refusal gave failed = gave_tokens (length text) (started text) after tokens (Refuses (refusal.token) (refusal.cause)) refl refl gave tt (failed.reading_is)
+  same_cause : {c d : ReadCause} → Fails c ≡ Fails d → c ≡ d
+  same_cause e = cc
+
+  same_refusal : {m n : ℕ} {c d : ReadCause} → Refuses m c ≡ Refuses n d → (m ≡ n) × (c ≡ d)
+  same_refusal e = (cc, cc)
+
+  same_token : (t u : PlacedToken) → t.token ≡ u.token → t.start ≡ u.start → t.number ≡ u.number → t.skipped ≡ u.skipped → t.string ≡ u.string → t ≡ u
+  same_token t u a b c d e =
+      ap (λ x. record t { token = x }) a ∙ ap (λ x. record { token = u.token; start = x; number = t.number; skipped = t.skipped; string = t.string }) b
+      ∙ ap (λ x. record { token = u.token; start = u.start; number = x; skipped = t.skipped; string = t.string }) c
+      ∙ ap (λ x. record { token = u.token; start = u.start; number = u.number; skipped = x; string = t.string }) d
+      ∙ ap (λ x. record { token = u.token; start = u.start; number = u.number; skipped = u.skipped; string = x }) e
+
+  -- what stands behind one token, read twice
+  same_behind : {token other behind behind' : List ℕ} {number number' : ℕ} {a b : After} → Reads token number behind ≡ Reads other number' behind' →
+      Behind (kind_of (named number) token) behind a → Behind (kind_of (named number') other) behind' b → a ≡ b
+  same_behind {token = token} {other = other} {behind = behind} {behind' = behind'} {number = number} {number' = number'} {a = a} e is stands =
+      let same : (token ≡ other) × (number ≡ number') × (behind ≡ behind') = same_parts e in
+      one_after (subst (λ l. Behind (kind_of (named number') other) l a) (same.2) (subst (λ n. Behind (kind_of (named n) other) behind a) (same.1) (subst (λ s. Behind (kind_of (named number) s) behind a) (same.0) is))) stands
+
+  one_end : {k : ℕ} {text : List ℕ} {e f : TokensEnd} → EndIs named k text e → EndIs named k text f → e ≡ f
+  one_end (all_read is) (all_read other) = refl
+  one_end (all_read is) (refused n c other) = absurd (let h = one_reading is other in cc)
+  one_end (all_read is) (fails_behind t n b c other stands) = absurd (let h = one_reading is other in cc)
+  one_end (refused n c is) (all_read other) = absurd (let h = one_reading is other in cc)
+  one_end (refused n c is) (refused m d other) = let same = same_refusal (one_reading is other) in ap (λ x. Faulty x c) (same.0) ∙ ap (Faulty m) (same.1)
+  one_end (refused n c is) (fails_behind t m b d other stands) = absurd (let h = one_reading is other in cc)
+  one_end (fails_behind t n b c is stands) (all_read other) = absurd (let h = one_reading is other in cc)
+  one_end (fails_behind t n b c is stands) (refused m d other) = absurd (let h = one_reading is other in cc)
+  one_end (fails_behind t n b c is stands) (fails_behind u m b' d other stands') =
+      let e = one_reading is other in
+      ap (λ x. Faulty x c) ((same_parts e).1) ∙ ap (Faulty m) (same_cause (same_behind e stands stands'))
+
+  no_end : {size k : ℕ} {text : List ℕ} {t : PlacedToken} {rest : List ℕ} {e : TokensEnd} → EndIs named k text e → IsTokenAt named size k text t rest → ⊥
+  no_end (all_read is) at = let h = one_reading is at.reads in cc
+  no_end (refused n c is) at = let h = one_reading is at.reads in cc
+  no_end (fails_behind s n b c is stands) at = let h = same_behind (one_reading is at.reads) stands at.stands in cc
+
+  tokens_same : (size k : ℕ) (text : List ℕ) (tokens others : List PlacedToken) (end other_end : TokensEnd) → AreTokensFrom named size k text tokens end → AreTokensFrom named size k text others other_end → (tokens ≡ others) × (end ≡ other_end)
+  tokens_same size k text [] [] end other_end is other = (refl, one_end is other)
+  tokens_same size k text [] (u ∷ others) end other_end is other = absurd (no_end is (other.1.0))
+  tokens_same size k text (t ∷ tokens) [] end other_end is other = absurd (no_end other (is.1.0))
+  tokens_same size k text (t ∷ tokens) (u ∷ others) end other_end is other =
+      let a : IsTokenAt named size k text t (is.0) = is.1.0 in
+      let b : IsTokenAt named size k text u (other.0) = other.1.0 in
+      let e : Reads t.token t.number a.behind ≡ Reads u.token u.number b.behind = one_reading a.reads b.reads in
+      let same : (t.token ≡ u.token) × (t.number ≡ u.number) × (a.behind ≡ b.behind) = same_parts e in
+      let after : (t.skipped ≡ u.skipped) × (t.string ≡ u.string) × (is.0 ≡ other.0) = same_after (same_behind e a.stands b.stands) in
+      let starts : t.start ≡ u.start = omega (arith, a.starts, b.starts, ap length (same.0), ap length (same.2)) in
+      let others_are : AreTokensFrom named size (t.number) (is.0) others other_end = subst (λ n. AreTokensFrom named size n (is.0) others other_end) (sym (same.1)) (subst (λ l. AreTokensFrom named size (u.number) l others other_end) (sym (after.2)) (other.1.1)) in
+      let more : (tokens ≡ others) × (end ≡ other_end) = tokens_same size (t.number) (is.0) tokens others end other_end (is.1.1) others_are in
+      (ap (λ x. x ∷ tokens) (same_token t u (same.0) starts (same.1) (after.0) (after.1)) ∙ ap (λ l. u ∷ l) (more.0), more.1)
+
+pub text_has_tokens : HasTokens
+text_has_tokens named text =
+    let found : HasTokensFrom named (length text) 0 text = tokens_exist named (length text + 1) (length text) 0 text (omega arith) (omega arith) in
+    (found.tokens, (found.end, found.are))
+
+pub no_other_tokens : HasNoOtherTokens
+no_other_tokens named text tokens others end other_end is other = tokens_same named (length text) 0 text tokens others end other_end is other

@@ -1,5 +1,5 @@
 -- A list of names that counts its looks.
-use Rattle.std.specs.Prelude.{ℕ, ◌+◌, ◌^◌, ◌-◌, min, List}
+use Rattle.std.specs.Prelude.{ℕ, ◌+◌, min, List}
 
 -- the names, and how often one was asked
 pub record NameList : Type 0 where

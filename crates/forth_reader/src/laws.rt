@@ -9,7 +9,9 @@ pub fn readings_are_splittings()
     ensures string { StringIsComputed }
 {}
 
-/// Each text has one list of tokens, and a reader that is asked by `next` until none is left, or until it refuses, gives it.
+/// Each text has one list of tokens, whichever of them are read as names. A reader that is asked by `next` and `name`, and by
+/// `string` behind each string word that `next` gave, until a call gives no token, gives those of them that are no comments, and
+/// where they end.
 pub fn texts_have_one_token_list()
     ensures exists { HasTokens }
     ensures unique { HasNoOtherTokens }

@@ -84,6 +84,7 @@ impl Names {
         requires { place < length self.old.names }
         ensures value { result ≡ str_eq_ignore_ascii_case (slice_index_or self.old.names place []) name.now }
         ensures looked { self.new ≡ record self.old { looks = looks_after self.old.looks } }
+        ensures risen { self.old.looks ≤ self.new.looks }
     {
         self.looks = self.looks.saturating_add(1);
         self.names[place as usize].is(name)

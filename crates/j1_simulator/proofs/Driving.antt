@@ -17,7 +17,7 @@ use Rattle.j1_simulator.specs.Run.{Configuration, advance}
 use Rattle.j1_simulator.specs.Drive.{Holds, HoldsFront, StandsAt, IsAt, driven, StandsWritten, driven_fits, going_on, counters_fit, input_for, given_after, left_of, IsDriven, IsBrokenOff, MadeAtMost, KeepsEnd}
 use Rattle.j1_simulator.specs.Turn.{LeftAfter, ComesFrom, IsTaken, TurnEnds, Turns}
 use Rattle.j1_simulator.proofs.Holding.{holds_flushed, holds_front}
-use Rattle.j1_simulator.proofs.Running.{run_suc, front_later, fits_before}
+use Rattle.j1_simulator.proofs.Running.{run_suc, fits_before}
 use Rattle.j1_simulator.proofs.Growing.{run_over}
 use Rattle.j1_simulator.proofs.Wanting.{flushed, narrowed}
 

@@ -1,11 +1,10 @@
 -- What an output holds after a flush.
-use Rattle.std.proofs.Common.{ℕ, List, [], ◌++◌, take, drop, Option, Some, None, sym, ap, subst, ◌∙◌, append_assoc}
+use Rattle.std.proofs.Common.{ℕ, List, [], ◌++◌, take, drop, Option, Some, None, sym, ap, ◌∙◌, append_assoc}
 use Rattle.std.proofs.lemmas.List.{take-append-drop, append-nil}
 use Rattle.std.specs.Prelude.{Result, Ok, Err, OnErr}
 use Rattle.std.specs.Io.KnownBytes.{Appends}
 use Rattle.outside_io.specs.Bytes.{AppendsFront}
 use Rattle.j1_simulator.specs.Drive.{Holds, HoldsFront}
-use Rattle.j1_simulator.specs.Run.{IsPrefixOf}
 
 pub holds_more : (before now : Option (List ℕ)) (buffer printed bs : List ℕ) → Holds before now buffer printed → Holds before now (buffer ++ bs) (printed ++ bs)
 holds_more None now buffer printed bs h = h
@@ -31,9 +30,6 @@ pub front_more : (before now : Option (List ℕ)) (printed bs : List ℕ) → Ho
 front_more None now printed bs h = h
 front_more (Some old) None printed bs h = h
 front_more (Some old) (Some new) printed bs h = (h.0, h.1, (h.2.0 ++ bs, sym (append_assoc h.0 h.2.0 bs) ∙ ap (λ x. x ++ bs) h.2.1))
-
-pub front_over : (before now : Option (List ℕ)) (printed later : List ℕ) → IsPrefixOf printed later → HoldsFront before now printed → HoldsFront before now later
-front_over before now printed later p h = subst (λ x. HoldsFront before now x) p.1 (front_more before now printed p.0 h)
 
 pub into_err : {T E : Type 0} (r : Result T E) (P : Type 0) → P → OnErr r P
 into_err (Ok x) P h = tt

@@ -3,7 +3,7 @@ use Rattle.std.proofs.Common.{◌≡◌, ℕ, Bool, true, false, List, Option, S
 use Rattle.j1_simulator.specs.declared.effects.Output.TheVariants.{Silent}
 use Rattle.j1_simulator.specs.declared.effects.Effect.{Effect}
 use Rattle.j1_simulator.specs.declared.effects.Output.{Output}
-use Rattle.j1_simulator.specs.Step.{Core, Missing, Reach, Reaches, Asks, Stops, Goes, Takes, Ends, if_known, next_pc, moved_on, goes_on, accesses, applied, effect_at, depth_of, new_top_of, data_after, return_after, step}
+use Rattle.j1_simulator.specs.Step.{Core, Missing, Reach, Reaches, Asks, Stops, Goes, Takes, Ends, if_known, next_pc, moved_on, goes_on, accesses, applied, effect_at, step}
 use Rattle.j1_simulator.specs.RoundMachine.{RingCells, round_storage, ring_top}
 use Rattle.j1_simulator.specs.MachineState.{WentOn, reached_with, with_key}
 
@@ -20,21 +20,15 @@ goes_resolved key e core (Stops stop) cell memory output pc r n = cc
 goes_resolved None e core Asks cell memory output pc r n = cc
 goes_resolved (Some byte) e core Asks cell memory output pc r n = ap (with_key (Some byte)) (asking e core pc n) ∙ cc
 
--- the same by the values that the code has
-pub step_resolved : (key : Option ℕ) (data_start : ℕ) (e : Effect) (core : Core ℕ RingCells) (before : List ℕ) (n r cell : ℕ) (memory : List ℕ) (output : Output) (pc : ℕ) → before ≡ core.memory → n ≡ ring_top core.data_stack → r ≡ ring_top core.return_stack → Reaches cell memory output ≡ reached_with key before (accesses round_storage data_start e.fetches e.stores before core.t n) → next_pc round_storage e.next core.pc core.t r ≡ Some pc → with_key key (applied round_storage data_start e core) ≡ WentOn (moved_on round_storage e core pc cell memory) output
-step_resolved key data_start e core before n r cell memory output pc b en er reach next =
-    let reach' : Reaches cell memory output ≡ reached_with key core.memory (accesses round_storage data_start e.fetches e.stores core.memory core.t (ring_top core.data_stack)) = cc in
+-- the step of a machine whose N, R, accesses and next place are known
+pub step_done : (key : Option ℕ) (data_start : ℕ) (e : Effect) (core old new : Core ℕ RingCells) (n r cell pc : ℕ) (memory : List ℕ) (output : Output) → core ≡ old → e ≡ effect_at old → n ≡ ring_top core.data_stack → r ≡ ring_top core.return_stack → Reaches cell memory output ≡ reached_with key core.memory (accesses round_storage data_start e.fetches e.stores core.memory core.t n) → next_pc round_storage e.next core.pc core.t r ≡ Some pc → new ≡ moved_on round_storage e core pc cell memory → WentOn new output ≡ with_key key (step round_storage data_start old)
+step_done key data_start e core old new n r cell pc memory output same known top back reached next moved =
+    let reached' : Reaches cell memory output ≡ reached_with key core.memory (accesses round_storage data_start e.fetches e.stores core.memory core.t (ring_top core.data_stack)) = cc in
     let next' : next_pc round_storage e.next core.pc core.t (ring_top core.return_stack) ≡ Some pc = cc in
-    goes_resolved key e core _ cell memory output pc reach' next'
-
--- the same, with the machine after the step by its fields
-pub step_done : (key : Option ℕ) (data_start : ℕ) (e : Effect) (core now : Core ℕ RingCells) (before : List ℕ) (n r cell depth : ℕ) (memory after : List ℕ) (output : Output) (pc t : ℕ) (d b : RingCells) → core ≡ now → after ≡ memory → e ≡ effect_at now → before ≡ core.memory → n ≡ ring_top core.data_stack → r ≡ ring_top core.return_stack → depth ≡ depth_of round_storage core → Reaches cell memory output ≡ reached_with key before (accesses round_storage data_start e.fetches e.stores before core.t n) → next_pc round_storage e.next core.pc core.t r ≡ Some pc → t ≡ new_top_of round_storage e.new_top core.t n r cell depth → d ≡ data_after round_storage e.t_to_n e.data_move core.t core.data_stack → b ≡ return_after round_storage e.return_write e.return_move core.t core.return_stack → WentOn (record { pc = pc; t = t; data_stack = d; return_stack = b; memory = after }) output ≡ with_key key (step round_storage data_start now)
-step_done key data_start e core now before n r cell depth memory after output pc t d b same kept f m en er ed reach next te de be =
-    let w : with_key key (applied round_storage data_start e core) ≡ WentOn (moved_on round_storage e core pc cell memory) output = step_resolved key data_start e core before n r cell memory output pc m en er reach next in
-    let t' : t ≡ new_top_of round_storage e.new_top core.t (ring_top core.data_stack) (ring_top core.return_stack) cell (depth_of round_storage core) = cc in
-    let goes : WentOn (record { pc = pc; t = t; data_stack = d; return_stack = b; memory = after }) output ≡ WentOn (moved_on round_storage e core pc cell memory) output = cc in
-    let last : with_key key (applied round_storage data_start e core) ≡ with_key key (step round_storage data_start now) = ap (λ x. with_key key (applied round_storage data_start x core)) f ∙ ap (λ c. with_key key (applied round_storage data_start (effect_at now) c)) same in
-    goes ∙ sym w ∙ last
+    ap (λ after. WentOn after output) moved
+    ∙ sym (goes_resolved key e core _ cell memory output pc reached' next')
+    ∙ ap (λ effect. with_key key (applied round_storage data_start effect core)) known
+    ∙ ap (λ at. with_key key (applied round_storage data_start (effect_at old) at)) same
 
 -- an instruction that makes no access reaches nothing
 pub quiet : (key : Option ℕ) (data_start : ℕ) (f s : Bool) (memory : List ℕ) (t n : ℕ) → f ≡ false → s ≡ false → Reaches t memory Silent ≡ reached_with key memory (accesses round_storage data_start f s memory t n)

@@ -1,11 +1,9 @@
 -- Runs, one instruction after another.
-use Rattle.std.proofs.Common.{◌≡◌, ℕ, zero, suc, ◌+◌, ◌-◌, ◌≤◌, List, Option, refl, subst, arith}
+use Rattle.std.proofs.Common.{◌≡◌, ℕ, zero, suc, ◌+◌, ◌-◌, ◌≤◌, List, refl, subst, arith}
 use Rattle.j1_simulator.specs.RoundMachine.{RingCells, round_storage}
 use Rattle.j1_simulator.specs.Run.{Configuration, run, advance}
 use Rattle.j1_simulator.specs.MachineState.{MachineState}
-use Rattle.j1_simulator.specs.Drive.{driven, driven_fits, going_on, HoldsFront}
-use Rattle.j1_simulator.proofs.Growing.{longer}
-use Rattle.j1_simulator.proofs.Holding.{front_over}
+use Rattle.j1_simulator.specs.Drive.{driven_fits}
 use Rattle.j1_simulator.proofs.Counting.{both_hold}
 use Rattle.std.specs.Prelude.{IsTrue}
 
@@ -25,7 +23,3 @@ pub fits_before : (machine : MachineState) (k n : ℕ) (input : List ℕ) → k 
 fits_before machine k n input le f =
     let e : n ≡ (n - k) + k = omega arith in
     fits_up machine k (n - k) input (subst (λ m. IsTrue (driven_fits machine m input)) e f)
-
--- what an output holds of the prints of k instructions it holds of those of n
-pub front_later : (machine : MachineState) (k n : ℕ) (input : List ℕ) (before now : Option (List ℕ)) → k ≤ n → HoldsFront before now (driven machine k input).printed → HoldsFront before now (driven machine n input).printed
-front_later machine k n input before now le h = front_over before now _ _ (longer round_storage machine.data_start k n (going_on machine input) le) h

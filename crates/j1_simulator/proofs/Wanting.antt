@@ -14,7 +14,7 @@ use Rattle.j1_simulator.specs.MachineState.{MachineState, Answers, Steps, IsTaki
 use Rattle.j1_simulator.specs.Run.{Configuration, advance}
 use Rattle.j1_simulator.specs.declared.ends.DriveError.{DriveError}
 use Rattle.j1_simulator.specs.declared.ends.DriveError.TheVariants.{Read, Write}
-use Rattle.j1_simulator.specs.Drive.{Holds, HoldsFront, StandsAt, StandsWritten, IsAt, ended_by, counters_fit, KeepsEnd}
+use Rattle.j1_simulator.specs.Drive.{Holds, HoldsFront, StandsAt, IsAt, ended_by, counters_fit, KeepsEnd}
 use Rattle.j1_simulator.specs.Turn.{LeftAfter, ComesFrom, IsTaken, TurnEnds}
 use Rattle.j1_simulator.proofs.Holding.{holds_flushed, holds_front}
 use Rattle.j1_simulator.specs.Laws.{BeginsAtStart, WantsExactly, StepIsInstruction, GivenStepIsInstruction}

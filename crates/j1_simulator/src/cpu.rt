@@ -1,8 +1,8 @@
 // The round machine without its console.
-ghost use Rattle.std.specs.Prelude.{◌≡◌, ◌≤ℤ◌, pos, negsuc, length, slice_index, OnErr, false, ℕ, Option};
+ghost use Rattle.std.specs.Prelude.{◌≡◌, ◌<◌, ◌≤ℤ◌, pos, negsuc, length, slice_index, OnErr, false, ℕ, Option};
 ghost use Rattle.j1_simulator.specs.declared.effects.Output.TheVariants.{Silent};
 ghost use Rattle.j1_table.specs.Instruction.{decoded};
-ghost use Rattle.j1_simulator.specs.Step.{step as step_of, effect_at, data_after, return_after};
+ghost use Rattle.j1_simulator.specs.Step.{step as step_of, effect_at, moved_on, data_after, return_after};
 ghost use Rattle.j1_simulator.specs.RoundMachine.{round_storage, empty_ring};
 ghost use Rattle.j1_simulator.specs.MachineState.{WentOn, seen_of, with_key};
 
@@ -101,6 +101,26 @@ impl Cpu {
         plan(self.pc, instr)
     }
 
+    // Moves on to this place by this effect, where the access gave this cell.
+    #[inline(always)]
+    fn move_on(&mut self, effect: Effect, pc: u16, cell: u16)
+        requires place { pc < 0x2000 }
+        requires data_low { negsuc 1 ≤ℤ effect.data_move }
+        requires data_high { effect.data_move ≤ℤ pos 1 }
+        requires return_low { negsuc 1 ≤ℤ effect.return_move }
+        requires return_high { effect.return_move ≤ℤ pos 1 }
+        ensures { self.new ≡ moved_on round_storage effect self.old pc cell self.old.memory }
+    {
+        let t = self.t;
+        let n = self.data_stack.top();
+        let r = self.return_stack.top();
+        let depth = u16::from(self.return_stack.at()) * 256 + u16::from(self.data_stack.at());
+        self.pc = pc;
+        self.t = new_top(effect.new_top, t, n, r, cell, depth);
+        change_data(&mut self.data_stack, effect, t);
+        change_return(&mut self.return_stack, effect, t);
+    }
+
     /// One instruction, of this effect, which makes no access.
     #[inline(always)]
     pub fn pass(&mut self, effect: Effect)
@@ -113,14 +133,9 @@ impl Cpu {
         requires return_high { effect.return_move ≤ℤ pos 1 }
         ensures { (key : Option ℕ) (data_start : ℕ) → WentOn self.new Silent ≡ with_key key (step_of round_storage data_start self.old) }
     {
-        let n = self.data_stack.top();
-        let r = self.return_stack.top();
-        let depth = u16::from(self.return_stack.at()) * 256 + u16::from(self.data_stack.at());
         let t = self.t;
-        self.pc = next_pc_of(effect.next, self.pc, t, r);
-        self.t = new_top(effect.new_top, t, n, r, t, depth);
-        change_data(&mut self.data_stack, effect, t);
-        change_return(&mut self.return_stack, effect, t);
+        let pc = next_pc_of(effect.next, self.pc, t, self.return_stack.top());
+        self.move_on(effect, pc, t);
     }
 
     /// One instruction, of this effect, where the next byte of the input is `key`.
@@ -135,9 +150,7 @@ impl Cpu {
         ensures err { OnErr result (self.new ≡ self.old) }
     {
         let n = self.data_stack.top();
-        let r = self.return_stack.top();
-        let depth = u16::from(self.return_stack.at()) * 256 + u16::from(self.data_stack.at());
-        let reached = reach(
+        let (cell, output) = reach(
             &mut self.memory,
             fence,
             key,
@@ -146,11 +159,8 @@ impl Cpu {
             self.t,
             n,
         )?;
-        let t = self.t;
-        self.pc = next_pc_of(effect.next, self.pc, t, r);
-        self.t = new_top(effect.new_top, t, n, r, reached.0, depth);
-        change_data(&mut self.data_stack, effect, t);
-        change_return(&mut self.return_stack, effect, t);
-        Ok(reached.1)
+        let pc = next_pc_of(effect.next, self.pc, self.t, self.return_stack.top());
+        self.move_on(effect, pc, cell);
+        Ok(output)
     }
 }

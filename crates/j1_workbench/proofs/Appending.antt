@@ -1,12 +1,18 @@
 -- What a sink holds after several writes.
-use Rattle.std.proofs.Common.{◌≡◌, ℕ, zero, suc, List, [], ◌∷◌, ◌++◌, take, drop, get_or, length, map, ◌-◌, ◌≤◌, arith, Option, Some, None, refl, sym, ap, ◌∙◌, subst, append_assoc}
-use Rattle.std.specs.Prelude.{Result, Ok, Err}
+use Rattle.std.proofs.Common.{◌≡◌, ℕ, zero, suc, List, [], ◌∷◌, ◌++◌, take, drop, get_or, length, map, ◌-◌, ◌≤◌, arith, Option, Some, None, inl, inr, refl, sym, ap, ◌∙◌, subst, append_assoc}
+use Rattle.std.specs.Prelude.{◌≢◌, Result, Ok, Err}
 use Rattle.std.specs.Borrow.{Bor}
 use Rattle.std.specs.Io.KnownBytes.{Appends}
 use Rattle.std.proofs.lemmas.List.{append-nil, take_all}
 use Rattle.outside_io.specs.Bytes.{AppendsFront, WritesAll}
+use Rattle.depth_certifier.specs.declared.effect.CertCause.{CertCause}
 use Rattle.j1_workbench.specs.declared.status.Status.{Status}
-use Rattle.j1_workbench.specs.Notes.{ended, note_of}
+use Rattle.outside_io.specs.Causes.{Rose}
+use Rattle.j1_workbench.specs.declared.status.Status.TheVariants.{Done, WriteFault}
+use Rattle.j1_workbench.specs.Words.{request_of}
+use Rattle.j1_workbench.specs.Surroundings.{Stream, Surroundings}
+use Rattle.j1_workbench.specs.Answers.{Does, Answers}
+use Rattle.j1_workbench.specs.Notes.{ended, note_of, line, uncertified}
 
 -- one write after another
 pub appends_then : (before between after : Option (List ℕ)) (xs ys : List ℕ) → Appends before between xs → Appends between after ys → Appends before after (xs ++ ys)
@@ -48,5 +54,25 @@ parts_ended [] none some = absurd (omega arith)
 parts_ended (part ∷ parts) none some = ap (λ rest. part.now ++ ended (map (λ part. part.now) rest)) (sym (take_all (suc (length parts) - 1) parts (omega arith)))
 
 -- the note of a status that is known
-pub noted : {T E : Type 0} (before after : Option (List ℕ)) (result : Result T E) (words : List (List ℕ)) (status known : Status) (text : List ℕ) → status ≡ known → text ≡ note_of words known → WritesAll before after result text → WritesAll before after result (note_of words status)
-noted before after result words status known text is same written = subst (WritesAll before after result) (same ∙ sym (ap (note_of words) is)) written
+pub noted : {T E : Type 0} (before after : Option (List ℕ)) (result : Result T E) (words : List (List ℕ)) (name : List ℕ) (status known : Status) (text : List ℕ) →
+    status ≡ known → text ≡ note_of words known name → WritesAll before after result text → WritesAll before after result (note_of words status name)
+noted before after result words name status known text is same written = subst (WritesAll before after result) (same ∙ sym (ap (λ s. note_of words s name) is)) written
+
+-- the line of a definition without a certificate, for a cause that is known
+pub uncertified_noted : {T E : Type 0} (before after : Option (List ℕ)) (result : Result T E) (name written : List ℕ) (known cause : CertCause) (text : List ℕ) →
+    cause ≡ known → written ≡ name → text ≡ line (written ∷ uncertified known ∷ []) → WritesAll before after result text → WritesAll before after result (line (name ∷ uncertified cause ∷ []))
+uncertified_noted before after result name written known cause text is same whole done =
+    subst (λ c. WritesAll before after result (line (name ∷ uncertified c ∷ []))) (sym is) (subst (λ n. WritesAll before after result (line (n ∷ uncertified known ∷ []))) same (subst (WritesAll before after result) whole done))
+
+-- whether the note was written decides the answer
+pub noted_ok : (words : List (List ℕ)) (before after : Surroundings) (notes_before notes_after : Stream) (status : Status) (name : List ℕ) →
+    Does (request_of words) before after status name → notes_before.faults ≤ notes_after.faults → Appends notes_before.bytes notes_after.bytes (note_of words status name) →
+    Answers words before after notes_before notes_after status
+noted_ok words before after notes_before notes_after status name does later written = record { status = status; name = name; does = does; noted = (later, inl (refl, written)) }
+
+pub noted_fault : (words : List (List ℕ)) (before after : Surroundings) (notes_before notes_after : Stream) (status : Status) (name : List ℕ) →
+    Does (request_of words) before after status name → notes_before.faults ≤ notes_after.faults → status ≢ Done →
+    AppendsFront notes_before.bytes notes_after.bytes (note_of words status name) → Rose notes_before.faults notes_after.faults →
+    Answers words before after notes_before notes_after WriteFault
+noted_fault words before after notes_before notes_after status name does later not_done written rose =
+    record { status = status; name = name; does = does; noted = (later, inr (refl, not_done, written, rose)) }

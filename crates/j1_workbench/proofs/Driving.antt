@@ -1,5 +1,5 @@
 -- What a drive from the start leaves, as the status tells it.
-use Rattle.std.proofs.Common.{◌≡◌, inl, inr, ℕ, zero, suc, ◌<◌, ◌≤◌, List, [], ◌++◌, Bool, refl, sym, ap, ◌∙◌, subst, arith}
+use Rattle.std.proofs.Common.{◌≡◌, ◌⊎◌, inl, inr, ℕ, zero, suc, ◌<◌, ◌≤◌, List, [], ◌++◌, Bool, refl, sym, ap, ◌∙◌, subst, arith}
 use Rattle.std.specs.Prelude.{Option, Some, None, Result, Ok, Err, IfSome, IfOk, OnOk}
 use Rattle.std.specs.Io.KnownBytes.{Appends}
 use Rattle.std.proofs.lemmas.List.{append-nil}
@@ -12,14 +12,15 @@ use Rattle.j1_simulator.specs.declared.ends.DriveError.{DriveError}
 use Rattle.j1_simulator.specs.declared.ends.DriveError.TheVariants.{Read, Write}
 use Rattle.j1_simulator.specs.MachineState.{MachineState, WantsAByte, IsTaking, started}
 use Rattle.j1_simulator.specs.Step.{step}
-use Rattle.j1_simulator.specs.Run.{round_run, round_start, begun, IsPrefixOf}
+use Rattle.outside_io.specs.Causes.{Rose}
+use Rattle.j1_simulator.specs.Run.{round_run}
 use Rattle.j1_simulator.specs.RoundMachine.{round_storage}
-use Rattle.j1_simulator.specs.Laws.{OnlyGrows}
-use Rattle.j1_simulator.specs.Drive.{Holds, HoldsFront, IsAt, IsDriven, IsBrokenOff, end_told}
+use Rattle.j1_simulator.specs.Drive.{Holds, IsAt, IsDriven, IsBrokenOff, end_told}
 use Rattle.j1_workbench.specs.declared.status.Status.{Status}
-use Rattle.j1_workbench.specs.declared.status.Status.TheVariants.{ReadFault, WriteFault}
+use Rattle.j1_workbench.specs.declared.status.Status.TheVariants.{Done, BadWords, Missing, SourceRefused, NotCertified, StepsUsed as OutOfSteps, InputEnded, Outside, Halted, ReadFault, WriteFault, OutOfMemory, TooLarge, NotYet}
 use Rattle.j1_workbench.specs.Statuses.{status_of, halted_status}
-use Rattle.j1_workbench.specs.Answers.{IsRunAnswer, IsFault, RanAs, BrokeOff, RunLeaves, status_after}
+use Rattle.j1_workbench.specs.Surroundings.{Stream}
+use Rattle.j1_workbench.specs.Running.{IsRunAnswer, RanAs, DriveLeaves, Drives, status_after}
 
 -- where nothing waits in the buffer, all that was printed stands in out
 all_written : (before now : Option (List ℕ)) (printed : List ℕ) → Holds before now [] printed → Appends before now printed
@@ -32,31 +33,32 @@ ran : (image : Content) (input : List ℕ) (steps : ℕ) (fits : Bool) (after : 
 ran image input steps fits after end status left before now at same is =
     record { end = after.ended; end_is = at.stands.ended; status_is = is ∙ ap status_of same; left_is = at.left_is; printed = all_written before now _ at.out }
 
-some_is : {A : Type 0} (x y : A) → Some x ≡ Some y → x ≡ y
-some_is x y e = cc
+-- each end of a run gives the answer of a run
+halted_is_answer : (status : ℕ) → IsRunAnswer (halted_status status)
+halted_is_answer zero = tt
+halted_is_answer (suc n) = tt
 
--- no end of a run is a fault
-no_halt_fault : (status : ℕ) → IsFault (halted_status status) → ⊥
-no_halt_fault zero fault = fault
-no_halt_fault (suc n) fault = fault
+end_is_answer : (end : Option End) → IsRunAnswer (status_of end)
+end_is_answer None = tt
+end_is_answer (Some (ends.Halted status)) = halted_is_answer status
+end_is_answer (Some ends.InputEnded) = tt
+end_is_answer (Some (ends.Outside address)) = tt
 
-no_fault : (end : Option End) → IsFault (status_of end) → ⊥
-no_fault None fault = fault
-no_fault (Some (ends.Halted status)) fault = no_halt_fault status fault
-no_fault (Some ends.InputEnded) fault = fault
-no_fault (Some (ends.Outside address)) fault = fault
-
--- a beginning of a beginning
-front_of : (before now : Option (List ℕ)) (printed all : List ℕ) → Holds before now [] printed → IsPrefixOf printed all → HoldsFront before now all
-front_of None now printed all held front = tt
-front_of (Some old) None printed all held front = absurd held
-front_of (Some old) (Some new) printed all held front = (held.0, held.1, (front.0, ap (λ l. l ++ front.0) (sym (append-nil held.0) ∙ held.2) ∙ front.1))
-
--- nothing was printed at all
-pub front_of_nothing : (before now : Option (List ℕ)) (all : List ℕ) → now ≡ before → HoldsFront before now all
-front_of_nothing None now all same = tt
-front_of_nothing (Some old) None all same = cc
-front_of_nothing (Some old) (Some new) all same = ([], some_is new old same ∙ sym (append-nil old), (all, refl))
+as_run : (image : Content) (input : List ℕ) (steps : ℕ) (status : Status) (left before now : Option (List ℕ)) → IsRunAnswer status → RanAs image input steps status left before now → DriveLeaves image input steps status left before now
+as_run image input steps Done left before now answer ran = (answer, ran)
+as_run image input steps OutOfSteps left before now answer ran = (answer, ran)
+as_run image input steps InputEnded left before now answer ran = (answer, ran)
+as_run image input steps (Outside address) left before now answer ran = (answer, ran)
+as_run image input steps (Halted status) left before now answer ran = (answer, ran)
+as_run image input steps ReadFault left before now answer ran = absurd answer
+as_run image input steps WriteFault left before now answer ran = absurd answer
+as_run image input steps BadWords left before now answer ran = absurd answer
+as_run image input steps Missing left before now answer ran = absurd answer
+as_run image input steps (SourceRefused refusal) left before now answer ran = absurd answer
+as_run image input steps (NotCertified id cause) left before now answer ran = absurd answer
+as_run image input steps OutOfMemory left before now answer ran = absurd answer
+as_run image input steps TooLarge left before now answer ran = absurd answer
+as_run image input steps NotYet left before now answer ran = absurd answer
 
 -- what an Ok, a failed read and a failed write say
 abbrev pub OkSays : ℕ → MachineState → MachineState → Result Finish DriveError → Option (List ℕ) → Option (List ℕ) → Option (List ℕ) → List ℕ → Type 0
@@ -77,40 +79,65 @@ due_there image input k after left before now at wants =
     subst (λ d. IsTaking (step round_storage d (round_run image input k).core)) at.stands.start_is
     (subst (λ c. IsTaking (step round_storage after.data_start c)) at.stands.core wants.taking)
 
-leaves : (image : Content) (input : List ℕ) (steps : ℕ) (after : MachineState) (result : Result Finish DriveError) (status : Status) (left before now : Option (List ℕ)) →
-    OnlyGrows round_storage →
+leaves : (image : Content) (input : List ℕ) (steps : ℕ) (after : MachineState) (result : Result Finish DriveError) (left before now : Option (List ℕ)) →
     OkSays steps (started image) after result left before now input → ReadSays steps (started image) after result left before now input → WriteSays steps (started image) after result left before now input →
-    IfOk result (λ finish. end_told finish ≡ after.ended) → (result ≡ Err Read → WantsAByte after) → status ≡ status_after result → RunLeaves image input steps status left before now
-leaves image input steps after (Ok (Ended end)) status left before now grows at read write same wants is =
-    record { ran = λ answered. ran image input steps _ after (Some end) status left before now at same is; broke_off = λ fault. absurd (no_fault (Some end) (subst IsFault is fault)) }
-leaves image input steps after (Ok StepsUsed) status left before now grows at read write same wants is =
-    record { ran = λ answered. ran image input steps _ after None status left before now at same is; broke_off = λ fault. absurd (subst IsFault is fault) }
-leaves image input steps after (Err Read) status left before now grows at read write same wants is =
+    IfOk result (λ finish. end_told finish ≡ after.ended) → (result ≡ Err Read → WantsAByte after) → DriveLeaves image input steps (status_after result) left before now
+leaves image input steps after (Ok (Ended end)) left before now at read write same wants =
+    as_run image input steps (status_of (Some end)) left before now (end_is_answer (Some end)) (ran image input steps _ after (Some end) (status_of (Some end)) left before now at same refl)
+leaves image input steps after (Ok StepsUsed) left before now at read write same wants =
+    (tt, ran image input steps _ after None OutOfSteps left before now at same refl)
+leaves image input steps after (Err Read) left before now at read write same wants =
     let told = read refl in
-    record { ran = λ answered. absurd (subst IsRunAnswer is answered); broke_off = λ fault. record { made = told.0; within = omega arith; left_is = told.2.left_is; front = front_of before now _ _ told.2.out ([], append-nil _); all = λ e. all_written before now _ told.2.out; due = λ e. inr (due_there image input told.0 after left before now told.2 (wants refl)) } }
-leaves image input steps after (Err Write) status left before now grows at read write same wants is =
-    record { ran = λ answered. absurd (subst IsRunAnswer is answered); broke_off = λ fault. let told = write refl in record { made = told.0; within = told.1; left_is = told.2.left_is; front = told.2.front; all = λ e. let clash : WriteFault ≡ ReadFault = sym is ∙ e in cc; due = λ e. let clash : WriteFault ≡ ReadFault = sym is ∙ e in cc } }
+    record { made = told.0; within = omega arith; left_is = told.2.left_is; printed = all_written before now _ told.2.out; due = due_there image input told.0 after left before now told.2 (wants refl) }
+leaves image input steps after (Err Write) left before now at read write same wants =
+    let told = write refl in
+    record { made = told.0; within = told.1; left_is = told.2.left_is; front = told.2.front }
+
+answer_of : (result : Result Finish DriveError) → (status_after result ≡ ReadFault) ⊎ ((status_after result ≡ WriteFault) ⊎ IsRunAnswer (status_after result))
+answer_of (Ok (Ended end)) = inr (inr (end_is_answer (Some end)))
+answer_of (Ok StepsUsed) = inr (inr tt)
+answer_of (Err Read) = inl refl
+answer_of (Err Write) = inr (inl refl)
+
+no_end_faults : (fault : Status) (end : Option End) → (IsRunAnswer fault → ⊥) → status_of end ≡ fault → ⊥
+no_end_faults fault end other same = other (subst IsRunAnswer same (end_is_answer end))
+
+read_failed : (result : Result Finish DriveError) → status_after result ≡ ReadFault → result ≡ Err Read
+read_failed (Ok (Ended end)) same = absurd (no_end_faults ReadFault (Some end) (λ answer. answer) same)
+read_failed (Ok StepsUsed) same = cc
+read_failed (Err Read) same = refl
+read_failed (Err Write) same = cc
+
+write_failed : (result : Result Finish DriveError) → status_after result ≡ WriteFault → result ≡ Err Write
+write_failed (Ok (Ended end)) same = absurd (no_end_faults WriteFault (Some end) (λ answer. answer) same)
+write_failed (Ok StepsUsed) same = cc
+write_failed (Err Read) same = cc
+write_failed (Err Write) same = refl
 
 -- a drive from the start, over a console that may tell its bytes
-pub drives_leave : (image : Content) (steps : ℕ) (machine after : MachineState) (result : Result Finish DriveError) (status : Status) (left left_now before now : Option (List ℕ)) →
-    OnlyGrows round_storage → machine ≡ started image →
-    IfSome left (OkSays steps machine after result left_now before now) → IfSome left (ReadSays steps machine after result left_now before now) → IfSome left (WriteSays steps machine after result left_now before now) →
+pub drives : (image : Content) (steps : ℕ) (machine after : MachineState) (result : Result Finish DriveError) (status : Status) (console_before console_after out_before out_after : Stream) →
+    machine ≡ started image →
+    IfSome console_before.bytes (OkSays steps machine after result console_after.bytes out_before.bytes out_after.bytes) →
+    IfSome console_before.bytes (ReadSays steps machine after result console_after.bytes out_before.bytes out_after.bytes) →
+    IfSome console_before.bytes (WriteSays steps machine after result console_after.bytes out_before.bytes out_after.bytes) →
     IfOk result (λ finish. end_told finish ≡ after.ended) → (result ≡ Err Read → WantsAByte after) → status ≡ status_after result →
-    IfSome left (λ input. RunLeaves image input steps status left_now before now)
-drives_leave image steps machine after result status None left_now before now grows begins run read write same wants is = tt
-drives_leave image steps machine after result status (Some input) left_now before now grows begins run read write same wants is =
-    let run' = subst (λ m. OkSays steps m after result left_now before now input) begins run in
-    let read' = subst (λ m. ReadSays steps m after result left_now before now input) begins read in
-    let write' = subst (λ m. WriteSays steps m after result left_now before now input) begins write in
-    leaves image input steps after result status left_now before now grows run' read' write' same wants is
-
--- nothing was appended
-pub appends_nothing : (before now : Option (List ℕ)) → now ≡ before → Appends before now []
-appends_nothing None now same = tt
-appends_nothing (Some old) None same = cc
-appends_nothing (Some old) (Some new) same = some_is new old same ∙ sym (append-nil old)
-
--- a call that failed before its run
-pub failed_leaves : (image : Content) (steps : ℕ) (left held : Option (List ℕ)) → IfSome left (λ input. RunLeaves image input steps ReadFault left held held)
-failed_leaves image steps None held = tt
-failed_leaves image steps (Some input) held = record { ran = λ answered. absurd answered; broke_off = λ fault. record { made = 0; within = omega arith; left_is = refl; front = front_of_nothing held held _ refl; all = λ e. appends_nothing held held refl; due = λ e. inl refl } }
+    (result ≡ Err Read → Rose console_before.faults console_after.faults) → (result ≡ Err Write → Rose out_before.faults out_after.faults) →
+    console_before.faults ≤ console_after.faults → out_before.faults ≤ out_after.faults →
+    Drives image steps console_before console_after out_before out_after status
+drives image steps machine after result status console_before console_after out_before out_after begins run read write same wants is read_cause write_cause console_later out_later = record {
+  answered = subst (λ s. (s ≡ ReadFault) ⊎ ((s ≡ WriteFault) ⊎ IsRunAnswer s)) (sym is) (answer_of result);
+  leaves = λ input told.
+      let at = subst (λ b. IfSome b (OkSays steps machine after result console_after.bytes out_before.bytes out_after.bytes)) told run in
+      let failed = subst (λ b. IfSome b (ReadSays steps machine after result console_after.bytes out_before.bytes out_after.bytes)) told read in
+      let broken = subst (λ b. IfSome b (WriteSays steps machine after result console_after.bytes out_before.bytes out_after.bytes)) told write in
+      subst (λ s. DriveLeaves image input steps s console_after.bytes out_before.bytes out_after.bytes) (sym is)
+      (leaves image input steps after result console_after.bytes out_before.bytes out_after.bytes
+      (subst (λ m. OkSays steps m after result console_after.bytes out_before.bytes out_after.bytes input) begins at)
+      (subst (λ m. ReadSays steps m after result console_after.bytes out_before.bytes out_after.bytes input) begins failed)
+      (subst (λ m. WriteSays steps m after result console_after.bytes out_before.bytes out_after.bytes input) begins broken)
+      same wants);
+  read_fault = λ fault. read_cause (read_failed result (sym is ∙ fault));
+  write_fault = λ fault. write_cause (write_failed result (sym is ∙ fault));
+  console_faults = console_later;
+  out_faults = out_later;
+}

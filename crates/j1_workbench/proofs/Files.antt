@@ -1,56 +1,120 @@
 -- Source texts that are read from a folder.
-use Rattle.std.proofs.Common.{◌≡◌, ℕ, ◌<◌, List, length, take, true, false, refl, sym, ap, ◌∙◌, arith, length-take}
-use Rattle.std.proofs.lemmas.Bool.{lt-leb}
-use Rattle.std.proofs.lemmas.Bool.Decides.{nat_tests}
+use Rattle.std.proofs.Common.{◌≡◌, ◌⊎◌, inl, inr, ℕ, ◌<◌, ◌≤◌, List, length, take, refl, sym, ◌∙◌, subst, arith, length-take}
 use Rattle.std.proofs.lemmas.List.{take_all}
-use Rattle.std.specs.Prelude.{Option, Some, None, option_map, if◌then◌else◌, nat_le}
-use Rattle.outside_io.specs.Files.{Files, HasFront, IsLacking}
-use Rattle.j1_workbench.specs.Words.{Request, Run}
+use Rattle.std.specs.Prelude.{◌↔◌, [], Option, Some, None, option_map, slice_index_or, IsSome, IfSome, Result, Ok, Err, MatchResult}
+use Rattle.outside_io.specs.Files.{Files, HasFront}
+use Rattle.forth_program.specs.Program.{SourceProgram}
+use Rattle.forth_program.specs.Name.{IsName}
+use Rattle.control_flow.specs.Outcome.{Fine}
 use Rattle.control_flow.specs.SourceText.{program_of_text}
+use Rattle.depth_certifier.specs.declared.effect.CertCause.{CertCause}
+use Rattle.depth_certifier.specs.Certificate.{Cert, IsValid}
+use Rattle.depth_certifier.specs.declared.refused.CertError.{CertError}
+use Rattle.depth_certifier.specs.declared.refused.CertError.TheVariants.{NotCertified as NoCertificate}
+use Rattle.depth_certifier.specs.Rounds.{Refuses}
+use Rattle.depth_certifier.specs.Settling.{IsRefusal}
+use Rattle.forth_program.specs.declared.item.DefId.{DefId}
 use Rattle.j1_workbench.specs.declared.status.Status.{Status}
-use Rattle.j1_workbench.specs.declared.status.Status.TheVariants.{TooLarge}
-use Rattle.j1_workbench.specs.Judgement.{judgement_of, judged, IsAnswered}
-use Rattle.j1_workbench.specs.Answers.{AsksToRun, HoldsTextOf, text_in}
-
-too_long : (text : List ℕ) → 65536 < length text → judged text ≡ IsAnswered TooLarge
-unfolding judged
-too_long text long = ap (λ b. if b then judgement_of (program_of_text text) else IsAnswered TooLarge) (lt-leb (length text) 65536 long)
-
--- one byte more than a source may have tells that it is too long
-front_tells : (text : List ℕ) → judged (take 65537 text) ≡ judged text
-front_tells text =
-    elim (nat_le (length text) 65536) as (λ fits. nat_le (length text) 65536 ≡ fits → judged (take 65537 text) ≡ judged text) [
-      | true ↦ λ fits. ap judged (take_all 65537 text (grind (arith, nat_tests)))
-      | false ↦ λ fits.
-          let long : 65536 < length text = grind (arith, nat_tests) in
-          too_long (take 65537 text) (omega (arith, length-take 65537 text)) ∙ sym (too_long text long)
-    ] refl
+use Rattle.j1_workbench.specs.declared.status.Status.TheVariants.{Done, BadWords, Missing, SourceRefused, NotCertified, StepsUsed, InputEnded, Outside, Halted, ReadFault, WriteFault, OutOfMemory, TooLarge, NotYet}
+use Rattle.j1_workbench.specs.Notes.{named}
+use Rattle.j1_workbench.specs.Surroundings.{FolderState}
+use Rattle.j1_workbench.specs.Sources.{Holds, IsCertified, IsUncertified, IsCertifiedSource, IsRefusedText, IsRefusedSource}
 
 some_same : {A : Type 0} (x y : A) → Some x ≡ Some y → x ≡ y
 some_same x y e = cc
 
--- what was read tells as much as the whole file
-pub read_tells : (files : Option Files) (name text front : List ℕ) → text_in files name ≡ Some text → HasFront files name 65537 front → judged front ≡ judged text
-read_tells None name text front told read = cc
-read_tells (Some files) name text front told read =
-    let same : take 65537 text ≡ front = some_same _ _ (sym (ap (option_map (take 65537)) told) ∙ read) in
-    ap judged (sym same) ∙ front_tells text
+-- a file of which these are the first bytes that were read
+has_content : (found : Option (List ℕ)) (front : List ℕ) → option_map (take 65537) found ≡ Some front → (text : List ℕ) × (found ≡ Some text) × (take 65537 text ≡ front)
+has_content None front read = cc
+has_content (Some text) front read = (text, refl, some_same _ _ read)
 
-other_held : (status : Status) (files : Files) (name front : List ℕ) (found : Option (List ℕ)) → files name ≡ found → option_map (take 65537) found ≡ Some front → judged front ≡ IsAnswered status → (text : List ℕ) × (files name ≡ Some text) × (judged text ≡ IsAnswered status)
-other_held status files name front None is read answered = cc
-other_held status files name front (Some text) is read answered = (text, is, sym (front_tells text) ∙ ap judged (some_same _ _ read) ∙ answered)
+content_of : (files : Option Files) (name front : List ℕ) → HasFront files name 65537 front → (text : List ℕ) × Holds files name text × (take 65537 text ≡ front ⊎ text ≡ front)
+content_of None name front read = (front, tt, inr refl)
+content_of (Some files) name front read = let found = has_content (files name) front read in (found.0, found.1, inl found.2)
 
-pub holds_text_of : (status : Status) (files : Option Files) (name front : List ℕ) → HasFront files name 65537 front → judged front ≡ IsAnswered status → HoldsTextOf status files name
-holds_text_of status None name front read answered = tt
-holds_text_of status (Some files) name front read answered = other_held status files name front (files name) refl read answered
+-- one byte more than a source may have tells whether it is too long
+same_if_short : (text front : List ℕ) → (take 65537 text ≡ front) ⊎ (text ≡ front) → length front ≤ 65536 → front ≡ text
+same_if_short text front (inl same) short =
+    let few : length (take 65537 text) ≤ 65536 = subst (λ l. length l ≤ 65536) (sym same) short in
+    sym same ∙ take_all 65537 text (omega (arith, length-take 65537 text))
+same_if_short text front (inr same) short = sym same
 
--- the source and the steps that are asked for are those of the command
-pub asked : (request : Option Request) (given source : List ℕ) (given_steps steps : Option ℕ) → request ≡ Some (Run given given_steps) → AsksToRun request source steps → (given ≡ source) × (given_steps ≡ steps)
-asked request given source given_steps steps is asks = (cc, cc)
+longer : (text front : List ℕ) → (take 65537 text ≡ front) ⊎ (text ≡ front) → 65536 < length front → 65536 < length text
+longer text front (inl same) long =
+    let many : 65536 < length (take 65537 text) = subst (λ l. 65536 < length l) (sym same) long in
+    omega (arith, length-take 65537 text)
+longer text front (inr same) long = subst (λ l. 65536 < length l) (sym same) long
 
--- a folder that lacks a file gives no bytes of it
-pub lacking_gives_none : (files : Option Files) (name front : List ℕ) (most : ℕ) → IsLacking files name → HasFront files name most front → ⊥
-lacking_gives_none None name front most lacking read = lacking
-lacking_gives_none (Some files) name front most lacking read =
-    let none : None ≡ Some front = sym (ap (option_map (take most)) lacking) ∙ read in
-    cc
+refused_as : (text front : List ℕ) (status : Status) (name : List ℕ) → (take 65537 text ≡ front) ⊎ (text ≡ front) → IsRefusedText front status name → IsRefusedText text status name
+refused_as text front TooLarge name same refused = longer text front same refused
+refused_as text front (SourceRefused refusal) name same refused = subst (λ t. IsRefusedText t (SourceRefused refusal) name) (same_if_short text front same refused.0) refused
+refused_as text front (NotCertified id cause) name same refused = subst (λ t. IsRefusedText t (NotCertified id cause) name) (same_if_short text front same refused.short) refused
+refused_as text front NotYet name same refused = subst (λ t. IsRefusedText t NotYet name) (same_if_short text front same refused.0) refused
+refused_as text front Done name same refused = absurd refused
+refused_as text front BadWords name same refused = absurd refused
+refused_as text front Missing name same refused = absurd refused
+refused_as text front StepsUsed name same refused = absurd refused
+refused_as text front InputEnded name same refused = absurd refused
+refused_as text front (Outside address) name same refused = absurd refused
+refused_as text front (Halted number) name same refused = absurd refused
+refused_as text front ReadFault name same refused = absurd refused
+refused_as text front WriteFault name same refused = absurd refused
+refused_as text front OutOfMemory name same refused = absurd refused
+
+-- what is found out of the bytes that were read holds of the file
+pub certified_file : (files : Option Files) (source front : List ℕ) (before : FolderState) (program : SourceProgram) (certificate : Cert) →
+    before.files ≡ files → HasFront files source 65537 front → IsCertified front program certificate → IsCertifiedSource source before program certificate
+certified_file files source front before program certificate told read certified =
+    let found = content_of files source front read in
+    (found.0, subst (λ f. Holds f source found.0) (sym told) found.1, subst (λ t. IsCertified t program certificate) (same_if_short found.0 front found.2 certified.short) certified)
+
+refused_file : (source front : List ℕ) (before : FolderState) (status : Status) (name : List ℕ) →
+    HasFront before.files source 65537 front → IsRefusedText front status name → (text : List ℕ) × Holds before.files source text × IsRefusedText text status name
+refused_file source front before status name read refused =
+    let found = content_of before.files source front read in
+    (found.0, found.1, refused_as found.0 front status name found.2 refused)
+
+refused_source : (source front : List ℕ) (before after : FolderState) (status : Status) (name : List ℕ) →
+    HasFront before.files source 65537 front → IsRefusedText front status name → IsRefusedSource source before after status name
+refused_source source front before after TooLarge name read refused = refused_file source front before TooLarge name read refused
+refused_source source front before after (SourceRefused refusal) name read refused = refused_file source front before (SourceRefused refusal) name read refused
+refused_source source front before after (NotCertified id cause) name read refused = refused_file source front before (NotCertified id cause) name read refused
+refused_source source front before after NotYet name read refused = refused_file source front before NotYet name read refused
+refused_source source front before after Done name read refused = absurd refused
+refused_source source front before after BadWords name read refused = absurd refused
+refused_source source front before after Missing name read refused = absurd refused
+refused_source source front before after StepsUsed name read refused = absurd refused
+refused_source source front before after InputEnded name read refused = absurd refused
+refused_source source front before after (Outside address) name read refused = absurd refused
+refused_source source front before after (Halted number) name read refused = absurd refused
+refused_source source front before after ReadFault name read refused = absurd refused
+refused_source source front before after WriteFault name read refused = absurd refused
+refused_source source front before after OutOfMemory name read refused = absurd refused
+
+pub refused_read : (source front : List ℕ) (before after : FolderState) (status : Status) (name : List ℕ) →
+    HasFront before.files source 65537 front → (status ≡ OutOfMemory) ⊎ IsRefusedText front status name → IsRefusedSource source before after status name
+refused_read source front before after status name read (inl same) = subst (λ s. IsRefusedSource source before after s name) (sym same) tt
+refused_read source front before after status name read (inr refused) = refused_source source front before after status name read refused
+
+no_name : IsSome {T = List ℕ} None → ⊥
+no_name some = cc
+
+-- a definition that is refused is named, since its name has the form of a name
+pub uncertified_text : (text : List ℕ) (program : SourceProgram) (error : CertError) (id : DefId) (cause : CertCause) (name : Option (List ℕ)) (told : List ℕ) →
+    length text ≤ 65536 → program_of_text text ≡ Fine program → error ≡ NoCertificate id cause → IsRefusal error (λ r. Refuses program r) → IsRefusal error (λ r. (z : Cert) → IsValid program z → ⊥) →
+    told ≡ slice_index_or program.names id.0 [] → (IsSome name ↔ IsName told) → IfSome name (λ n. n ≡ told) → IsName told →
+    IsUncertified text id.0 cause (named name)
+uncertified_text text program error id cause None told short is known refused none same form value name = absurd (no_name (form.1 name))
+uncertified_text text program error id cause (Some n) told short is known refused none same form value name = record {
+  program = program;
+  short = short;
+  program_is = is;
+  refusal = subst (λ e. IsRefusal e (λ r. Refuses program r)) known refused;
+  none = subst (λ e. IsRefusal e (λ r. (z : Cert) → IsValid program z → ⊥)) known none;
+  name_is = value ∙ same;
+}
+
+-- what holds of a result of either kind
+pub on_either : {T E : Type 0} (P P' : T → Type 0) (Q Q' : E → Type 0) (result : Result T E) → ((x : T) → P x → P' x) → ((e : E) → Q e → Q' e) → MatchResult result P Q → MatchResult result P' Q'
+on_either P P' Q Q' (Ok x) good bad holds = good x holds
+on_either P P' Q Q' (Err e) good bad holds = bad e holds

@@ -1,8 +1,8 @@
-pub mod Appending
-pub mod Compiled
-pub mod Digits
-pub mod Driving
-pub mod Files
-pub mod Walking
-pub mod LineSource
-pub mod Lines
+mod Appending
+mod Digits
+mod Driving
+mod Files
+mod Commands
+mod Built
+mod Headline
+mod Completeness

@@ -1,9 +1,12 @@
 pub mod Numbers
 pub mod Words
 pub mod Commands
-pub mod Certificate
-pub mod Judgement
-pub mod Notes
 pub mod Statuses
-pub mod HeadlineLaw
+pub mod Notes
+pub mod Surroundings
+pub mod Sources
+pub mod Headline
+pub mod Running
+pub mod Certifying
 pub mod Answers
+pub mod Completeness

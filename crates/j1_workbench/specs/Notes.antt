@@ -1,9 +1,11 @@
 -- The line that a status other than Done leaves in the notes.
-use Rattle.std.specs.Prelude.{ℕ, List, [], ◌∷◌, ◌++◌, codes, decimal}
+use Rattle.std.specs.Prelude.{ℕ, List, [], ◌∷◌, ◌++◌, Option, Some, None, codes, decimal}
 use Rattle.control_flow.specs.declared.refusal.SourceCause.{SourceCause}
 use Rattle.control_flow.specs.declared.refusal.SourceCause.TheVariants as cause
+use Rattle.depth_certifier.specs.declared.effect.CertCause.{CertCause}
+use Rattle.depth_certifier.specs.declared.effect.CertCause.TheVariants as certificate
 use Rattle.j1_workbench.specs.declared.status.Status.{Status}
-use Rattle.j1_workbench.specs.declared.status.Status.TheVariants.{Done, BadWords, Missing, SourceRefused, StepsUsed, InputEnded, Outside, Halted, ReadFault, WriteFault, OutOfMemory, TooLarge, NotYet}
+use Rattle.j1_workbench.specs.declared.status.Status.TheVariants.{Done, BadWords, Missing, SourceRefused, NotCertified, StepsUsed, InputEnded, Outside, Halted, ReadFault, WriteFault, OutOfMemory, TooLarge, NotYet}
 
 -- the file that is read: the word behind the command
 abbrev pub file_named : List (List ℕ) → List ℕ
@@ -40,17 +42,30 @@ cause_named cause.CodeFull = codes "CodeFull"
 cause_named cause.OpenDefinition = codes "OpenDefinition"
 cause_named cause.NoMain = codes "NoMain"
 
-abbrev pub note_of : List (List ℕ) → Status → List ℕ
-note_of words Done = []
-note_of words BadWords = line (codes "bad words" ∷ [])
-note_of words Missing = line (file_named words ∷ codes ": missing" ∷ [])
-note_of words (SourceRefused refusal) = line (codes "source token " ∷ decimal refusal.token ∷ codes ": " ∷ cause_named refusal.cause ∷ [])
-note_of words StepsUsed = line (codes "steps used" ∷ [])
-note_of words InputEnded = line (codes "input ended" ∷ [])
-note_of words (Outside address) = line (codes "outside " ∷ decimal address ∷ [])
-note_of words (Halted status) = line (codes "halted " ∷ decimal status ∷ [])
-note_of words ReadFault = line (codes "read fault" ∷ [])
-note_of words WriteFault = line (codes "write fault" ∷ [])
-note_of words OutOfMemory = line (codes "out of memory" ∷ [])
-note_of words TooLarge = line (file_named words ∷ codes ": too large" ∷ [])
-note_of words NotYet = line (codes "not yet" ∷ [])
+-- why a definition has no certificate
+abbrev pub uncertified : CertCause → List ℕ
+uncertified certificate.Data = codes ": not certified: Data"
+uncertified certificate.Return = codes ": not certified: Return"
+uncertified certificate.Shape = codes ": not certified: Shape"
+
+-- the definition that an answer names, or no bytes
+abbrev pub named : Option (List ℕ) → List ℕ
+named None = []
+named (Some name) = name
+
+-- the line of an answer, which may name a definition
+abbrev pub note_of : List (List ℕ) → Status → List ℕ → List ℕ
+note_of words Done name = []
+note_of words BadWords name = line (codes "bad words" ∷ [])
+note_of words Missing name = line (file_named words ∷ codes ": missing" ∷ [])
+note_of words (SourceRefused refusal) name = line (codes "source token " ∷ decimal refusal.token ∷ codes ": " ∷ cause_named refusal.cause ∷ [])
+note_of words (NotCertified id cause) name = line (name ∷ uncertified cause ∷ [])
+note_of words StepsUsed name = line (codes "steps used" ∷ [])
+note_of words InputEnded name = line (codes "input ended" ∷ [])
+note_of words (Outside address) name = line (codes "outside " ∷ decimal address ∷ [])
+note_of words (Halted status) name = line (codes "halted " ∷ decimal status ∷ [])
+note_of words ReadFault name = line (codes "read fault" ∷ [])
+note_of words WriteFault name = line (codes "write fault" ∷ [])
+note_of words OutOfMemory name = line (codes "out of memory" ∷ [])
+note_of words TooLarge name = line (file_named words ∷ codes ": too large" ∷ [])
+note_of words NotYet name = line (codes "not yet" ∷ [])

@@ -1,6 +1,7 @@
 -- What the words of a command line ask for.
-use Rattle.std.specs.Prelude.{ℕ, List, [], ◌∷◌, length, Bool, ◌&&◌, ◌==◌, not, nat_lt, false, if◌then◌else◌, Option, Some, None, option_map, codes}
+use Rattle.std.specs.Prelude.{ℕ, List, [], ◌∷◌, length, Bool, ◌&&◌, ◌==◌, not, nat_lt, false, if◌then◌else◌, Option, Some, None, option_map, map, codes, String}
 use Rattle.std.specs.Str.{bytes_eq}
+use Rattle.std.specs.String.{string_bytes}
 use Rattle.j1_workbench.specs.Numbers.{number_in}
 
 -- a command, with the names of its files and its numbers; None are steps that are not given
@@ -68,6 +69,10 @@ request_for command words =
 abbrev pub request_of : List (List ℕ) → Option Request
 request_of [] = None
 request_of (command ∷ words) = request_for command words
+
+-- the same of words as the program has them
+abbrev pub asked : {Z : Type 0} → List (String Z) → Option Request
+asked words = request_of (map string_bytes words)
 
 -- how many instructions a run may make, where the words give a number and where they give none
 unfoldable pub steps_allowed : Option ℕ → ℕ

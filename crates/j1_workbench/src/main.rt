@@ -1,8 +1,9 @@
 //! `j1`: Forth source is compiled for the J1 and run on a simulated chip.
 #![tactic(auto)]
 
+mod answer;
 mod answering;
-mod certificate;
+mod certifying;
 mod laws;
 mod notes;
 mod numbers;

@@ -1,11 +1,14 @@
 // The line that a status leaves in the notes.
-ghost use Rattle.std.specs.Prelude.{◌≡◌, map, string_bytes};
+ghost use Rattle.std.specs.Prelude.{◌≡◌, ◌≢◌, ◌∷◌, [], IsErr, map, string_bytes};
 ghost use Rattle.outside_io.specs.Causes.{HasCause};
 ghost use Rattle.outside_io.specs.Bytes.{WritesAll};
-ghost use Rattle.j1_workbench.specs.Notes.{file_named, ended, line, cause_named, note_of};
+ghost use Rattle.j1_workbench.specs.Notes.{file_named, ended, line, cause_named, uncertified, named, note_of};
 
+use crate::answer::named;
 use crate::status::Status;
 use control_flow::SourceCause;
+use depth_certifier::CertCause;
+use forth_program::Name;
 use itoa::Buffer;
 use outside_io::{Failed, Sink};
 
@@ -66,10 +69,38 @@ fn cause_named(cause: SourceCause) -> &'static [u8]
     }
 }
 
-/// Writes the line of a status, in pieces and without memory. Done has none.
-pub fn write_note<N: Sink>(notes: &mut N, words: &[String], status: Status) -> Result<(), Failed>
-    ensures bytes { WritesAll (N.held notes.old) (N.held notes.new) result (note_of (map string_bytes words.now) status) }
+// The line of a definition without a certificate.
+fn write_uncertified<N: Sink>(
+    notes: &mut N,
+    name: &Option<Name>,
+    cause: CertCause,
+) -> Result<(), Failed>
+    ensures bytes { WritesAll (N.held notes.old) (N.held notes.new) result (line (named name.now ∷ uncertified cause ∷ [])) }
     ensures cause { HasCause (N.faults notes.old) (N.faults notes.new) result }
+{
+    match cause {
+        CertCause::Data => {
+            write_line(notes, &[named(name).as_bytes(), b": not certified: Data"])
+        }
+        CertCause::Return => {
+            write_line(notes, &[named(name).as_bytes(), b": not certified: Return"])
+        }
+        CertCause::Shape => {
+            write_line(notes, &[named(name).as_bytes(), b": not certified: Shape"])
+        }
+    }
+}
+
+/// Writes the line of an answer, which may name a definition, in pieces and without memory. Done has none.
+pub fn write_note<N: Sink>(
+    notes: &mut N,
+    words: &[String],
+    status: Status,
+    name: &Option<Name>,
+) -> Result<(), Failed>
+    ensures bytes { WritesAll (N.held notes.old) (N.held notes.new) result (note_of (map string_bytes words.now) status (named name.now)) }
+    ensures cause { HasCause (N.faults notes.old) (N.faults notes.new) result }
+    ensures done { IsErr result → status ≢ Status.Done }
 {
     let mut digits = Buffer::new();
     match status {
@@ -83,6 +114,7 @@ pub fn write_note<N: Sink>(notes: &mut N, words: &[String], status: Status) -> R
                 &[b"source token ", number, b": ", cause_named(refusal.cause)],
             )
         }
+        Status::NotCertified(_, cause) => write_uncertified(notes, name, cause),
         Status::StepsUsed => write_line(notes, &[b"steps used"]),
         Status::InputEnded => write_line(notes, &[b"input ended"]),
         Status::Outside(address) => {

@@ -1,42 +1,67 @@
-// Reading a source text.
-ghost use Rattle.std.specs.Prelude.{[], ◌≡◌, ◌⊎◌, MatchResult, IfOk, IfErr};
-ghost use Rattle.code_layout.specs.Built.{IsBuilt};
-ghost use Rattle.code_layout.specs.Places.{library_of};
-ghost use Rattle.j1_workbench.specs.Answers.{IsTextRefusal};
-ghost use Rattle.j1_workbench.specs.Judgement.{judged, Compiles, IsAnswered};
+// Source files with a certificate.
+ghost use Rattle.std.specs.Prelude.{◌≡◌, ◌⊎◌, MatchResult};
+ghost use Rattle.j1_workbench.specs.Notes.{named};
+ghost use Rattle.j1_workbench.specs.Surroundings.{folder, IsOnlyRead};
+ghost use Rattle.j1_workbench.specs.Sources.{IsCertified, IsCertifiedSource, IsRefusedText, IsRefusedSource};
 
-use crate::certificate::is_certified;
+use crate::answer::{Answer, answered};
 use crate::status::Status;
-use control_flow::{SourceError, programs_are_lines, read_program};
-use forth_program::Program;
+use control_flow::{SourceError, read_program};
+use depth_certifier::{CertError, Certificate, certify};
+use forth_program::{Name, Program};
+use outside_io::{FileFault, Folder};
 use std::alloc::Global;
 
 /// The most bytes of a source.
-pub const MOST_SOURCE: usize = 65_536;
+const MOST_SOURCE: usize = 65_536;
 
-/// The certified program of a source text, or the answer of a call whose text is not compiled.
-#[tactic(auto, unfolding(crate::specs::Judgement::judged))]
-pub fn judge(alloc: Global, text: &[u8]) -> Result<Program, Status>
-    ensures judgement { MatchResult result (λ program. judged text.now ≡ Compiles program) (λ status. (status ≡ Status.OutOfMemory) ⊎ (judged text.now ≡ IsAnswered status)) }
-    ensures refused { IfErr result (λ status. IsTextRefusal status) }
-    ensures built { IfOk result (λ program. IsBuilt [] program) }
-    ensures alone { IfOk result (λ program. library_of program ≡ []) }
+// The program of a source text and its least certificate, or why the text is refused.
+fn certified_text(alloc: Global, text: &[u8]) -> Result<(Program, Certificate), Answer>
+    ensures { MatchResult result (λ found. IsCertified text.now found.0 found.1)
+        (λ answer. (answer.status ≡ Status.OutOfMemory) ⊎ IsRefusedText text.now answer.status (named answer.name)) }
 {
-    // each program is a line of numbers and inline words, which is laid out
-    programs_are_lines();
     if text.len() > MOST_SOURCE {
-        return Err(Status::TooLarge);
+        return Err(answered(Status::TooLarge));
     }
-    match read_program(alloc, text) {
-        Ok(program) => {
-            if is_certified(&program) {
-                Ok(program)
-            } else {
-                Err(Status::NotYet)
-            }
+    let program = match read_program(alloc, text) {
+        Ok(program) => program,
+        Err(SourceError::Refused(refusal)) => {
+            return Err(answered(Status::SourceRefused(refusal)));
         }
-        Err(SourceError::Refused(refusal)) => Err(Status::SourceRefused(refusal)),
-        Err(SourceError::NotYet) => Err(Status::NotYet),
-        Err(SourceError::OutOfMemory) => Err(Status::OutOfMemory),
+        Err(SourceError::NotYet) => return Err(answered(Status::NotYet)),
+        Err(SourceError::OutOfMemory) => return Err(answered(Status::OutOfMemory)),
+    };
+    match certify(alloc, &program) {
+        Ok(certificate) => Ok((program, certificate)),
+        Err(CertError::NotCertified(id, cause)) => {
+            Err(Answer {
+                status: Status::NotCertified(id, cause),
+                name: Name::new(program.name(id)),
+            })
+        }
+        Err(CertError::OutOfMemory) => Err(answered(Status::OutOfMemory)),
+    }
+}
+
+/// The program of a source file and its least certificate, or why a command that works on it ends before it begins. The folder is
+/// asked once, for one byte more than a source may have: so it tells that a source is too large.
+#[tactic(auto, using(crate::proofs::Files::certified_file, crate::proofs::Files::refused_read))]
+pub fn certified_source<F: Folder>(
+    alloc: Global,
+    source: &str,
+    files: &mut F,
+) -> Result<(Program, Certificate), Answer>
+    ensures read { let before = folder (F.files files.old) (F.read_faults files.old) (F.write_faults files.old) (F.absences files.old) in
+        let after = folder (F.files files.new) (F.read_faults files.new) (F.write_faults files.new) (F.absences files.new) in
+        IsOnlyRead before after }
+    ensures found { let before = folder (F.files files.old) (F.read_faults files.old) (F.write_faults files.old) (F.absences files.old) in
+        let after = folder (F.files files.new) (F.read_faults files.new) (F.write_faults files.new) (F.absences files.new) in
+        MatchResult result (λ found. IsCertifiedSource source.now before found.0 found.1) (λ answer. IsRefusedSource source.now before after answer.status (named answer.name)) }
+{
+    match files.read(alloc, source, MOST_SOURCE + 1) {
+        Ok(text) => certified_text(alloc, text.as_slice()),
+        Err(FileFault::Absent) => Err(answered(Status::Missing)),
+        Err(FileFault::Failed) => Err(answered(Status::ReadFault)),
+        Err(FileFault::OutOfMemory) => Err(answered(Status::OutOfMemory)),
     }
 }

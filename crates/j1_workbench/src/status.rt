@@ -3,6 +3,8 @@ ghost use Rattle.std.specs.Prelude.{◌≡◌};
 ghost use Rattle.j1_workbench.specs.Statuses.{number_of};
 
 use control_flow::SourceRefusal;
+use depth_certifier::CertCause;
+use forth_program::DefId;
 
 /// How a call of the workbench ends.
 #[derive(Clone, Copy, Debug, PartialEq, Eq)]
@@ -15,6 +17,8 @@ pub enum Status {
     Missing,
     /// The source text is refused: its first refused token, and why.
     SourceRefused(SourceRefusal),
+    /// The program has no stack certificate: the definition that is refused first, and why.
+    NotCertified(DefId, CertCause),
     /// The run had no end within its instructions.
     StepsUsed,
     /// The run wanted an input byte where none was left.
@@ -44,6 +48,7 @@ pub fn status_number(status: &Status) -> u8
         Status::BadWords => 1,
         Status::Missing => 2,
         Status::SourceRefused(_) => 3,
+        Status::NotCertified(_, _) => 4,
         Status::StepsUsed => 6,
         Status::InputEnded => 7,
         Status::Outside(_) => 8,

@@ -1,4 +1,7 @@
 // Worked calls of the workbench, with answers from outside.
+mod edge;
+mod library;
+mod programs;
 mod reading;
 mod sources;
 mod vectors;
@@ -6,6 +9,8 @@ mod words;
 
 use crate::{Status, status_number, workbench};
 use control_flow::{SourceCause, SourceRefusal};
+use depth_certifier::CertCause;
+use forth_program::DefId;
 use outside_io::{Folder, MemFolder, MemSink, MemSource, PutFault};
 use std::alloc::{AllocError, Global};
 use std::test::Fail;
@@ -91,6 +96,10 @@ run NONE --steps 5               | NONE: missing
 run source.fs --steps 0          | steps used
 run source.fs                    |
 run source.fs --steps 1000000000 |
+certify                          | bad words
+certify -x                       | bad words
+certify source.fs --steps 5      | bad words
+certify NONE                     | NONE: missing
 "#;
 
 // The line of a note: none where there is nothing to tell.
@@ -124,63 +133,91 @@ fn answers_words(rt: HostRuntime) -> Result<(), Fail> {
 #[test]
 fn tells_faults(rt: HostRuntime) -> Result<(), Fail> {
     let alloc = rt.alloc();
-    let rows: [(&[u8], Fails, Status, &[u8], &[u8]); 5] = [
+    let folder = Fails {
+        files: &[1],
+        ..NEVER
+    };
+    let output = Fails {
+        writes: &[1],
+        ..NEVER
+    };
+    let input = Fails {
+        questions: &[1],
+        ..NEVER
+    };
+    let second_note = Fails {
+        notes: &[2],
+        ..NEVER
+    };
+    let fourth_note = Fails {
+        notes: &[4],
+        ..NEVER
+    };
+    let rows: [(&str, &str, Fails, Status, &str, &str); 8] = [
         (
-            b": MAIN 72 EMIT ;",
-            Fails {
-                files: &[1],
-                ..NEVER
-            },
+            "run",
+            ": MAIN 72 EMIT ;",
+            folder,
             Status::ReadFault,
-            b"",
-            b"j1: read fault\n",
+            "",
+            "j1: read fault\n",
         ),
         (
-            b": MAIN 72 EMIT ;",
-            Fails {
-                writes: &[1],
-                ..NEVER
-            },
+            "run",
+            ": MAIN 72 EMIT ;",
+            output,
             Status::WriteFault,
-            b"",
-            b"j1: write fault\n",
+            "",
+            "j1: write fault\n",
         ),
         (
-            b": MAIN 72 EMIT KEY EMIT ;",
-            Fails {
-                questions: &[1],
-                ..NEVER
-            },
+            "run",
+            ": MAIN 72 EMIT KEY EMIT ;",
+            input,
             Status::ReadFault,
-            b"H",
-            b"j1: read fault\n",
+            "H",
+            "j1: read fault\n",
+        ),
+        ("run", "X", second_note, Status::WriteFault, "", "j1: "),
+        (
+            "run",
+            ": MAIN X ;",
+            fourth_note,
+            Status::WriteFault,
+            "",
+            "j1: source token 3",
         ),
         (
-            b"X",
-            Fails {
-                notes: &[2],
-                ..NEVER
-            },
+            "run",
+            ": MAIN 72 EMIT ABORT ;",
+            second_note,
             Status::WriteFault,
-            b"",
-            b"j1: ",
+            "H",
+            "j1: ",
         ),
         (
-            b": MAIN X ;",
-            Fails {
-                notes: &[4],
-                ..NEVER
-            },
+            "certify",
+            ": MAIN 72 EMIT ;",
+            folder,
+            Status::ReadFault,
+            "",
+            "j1: read fault\n",
+        ),
+        (
+            "certify",
+            ": MAIN 72 EMIT ;",
+            output,
             Status::WriteFault,
-            b"",
-            b"j1: source token 3",
+            "",
+            "j1: write fault\n",
         ),
     ];
-    for (text, fails, status, printed, noted) in rows {
-        let left = call(alloc, "run source.fs", text, b"x", fails)?;
+    for (command, text, fails, status, printed, noted) in rows {
+        let words = format!(in alloc; "{command} source.fs")?;
+        let left = call(alloc, words.as_str(), text.as_bytes(), b"x", fails)?;
         assert_eq!(rt; left.status, status);
-        assert_eq!(rt; left.out.held(), printed);
-        assert_eq!(rt; left.notes.held(), noted);
+        assert_eq!(rt; left.out.held(), printed.as_bytes());
+        assert_eq!(rt; left.notes.held(), noted.as_bytes());
     }
     Ok(())
 }
@@ -222,6 +259,7 @@ fn numbers_statuses(rt: HostRuntime) {
         (Status::BadWords, 1),
         (Status::Missing, 2),
         (Status::SourceRefused(refusal), 3),
+        (Status::NotCertified(DefId(0), CertCause::Data), 4),
         (Status::StepsUsed, 6),
         (Status::InputEnded, 7),
         (Status::Outside(0), 8),

@@ -4,7 +4,7 @@ use Rattle.console_ports.specs.Ports.{access_at}
 use Rattle.console_ports.specs.declared.ports.Access.{Access as Met}
 use Rattle.console_ports.specs.declared.ports.Access.TheVariants as met
 use Rattle.word_table.specs.declared.word.Word.{Word}
-use Rattle.word_table.specs.declared.word.Word.TheVariants.{Dup, DropTop, Swap, Over, Rot, TwoDup, TwoDrop, Plus, Minus, Negate, OnePlus, OneMinus, TwoStar, And, Or, Xor, Invert, LShift, RShift, Equal, Less, Greater, ULess, ZeroEqual, ZeroLess, SToD}
+use Rattle.word_table.specs.declared.word.Word.TheVariants.{Nip, Tuck, ZeroGreater, NotEqual, Within, Hex, Dup, DropTop, Swap, Over, Rot, TwoDup, TwoDrop, Plus, Minus, Negate, OnePlus, OneMinus, TwoStar, And, Or, Xor, Invert, LShift, RShift, Equal, Less, Greater, ULess, ZeroEqual, ZeroLess, SToD}
 use Rattle.word_table.specs.declared.word.Word.TheVariants.{Cells, CellPlus, Chars, CharPlus, Aligned, Fetch, Store, Emit, Key, Blank, Cr, Space, Base, Here, Decimal, Depth, ToR, RFrom, RFetch, Index, OuterIndex, Unloop}
 use Rattle.word_table.specs.Row.{change}
 use Rattle.word_table.specs.Table.{entry_of}
@@ -49,6 +49,8 @@ module _ (p : SourceProgram) (s : State) where
   word_exits Rot (z ∷ y ∷ x ∷ c) es same = (omega arith, refl)
   word_exits TwoDup (y ∷ x ∷ c) es same = (omega arith, refl)
   word_exits TwoDrop (y ∷ x ∷ c) es same = (omega arith, refl)
+  word_exits Nip (y ∷ x ∷ c) es same = (omega arith, refl)
+  word_exits Tuck (y ∷ x ∷ c) es same = (omega arith, refl)
   word_exits Plus (y ∷ x ∷ c) es same = (omega arith, refl)
   word_exits Minus (y ∷ x ∷ c) es same = (omega arith, refl)
   word_exits Negate (x ∷ c) es same = (omega arith, refl)
@@ -68,6 +70,9 @@ module _ (p : SourceProgram) (s : State) where
   word_exits ZeroEqual (x ∷ c) es same = (omega arith, refl)
   word_exits ZeroLess (x ∷ c) es same = (omega arith, refl)
   word_exits SToD (x ∷ c) es same = (omega arith, refl)
+  word_exits ZeroGreater (x ∷ c) es same = (omega arith, refl)
+  word_exits NotEqual (y ∷ x ∷ c) es same = (omega arith, refl)
+  word_exits Within (z ∷ y ∷ x ∷ c) es same = (omega arith, refl)
   word_exits Cells (x ∷ c) es same = (omega arith, refl)
   word_exits CellPlus (x ∷ c) es same = (omega arith, refl)
   word_exits Chars (x ∷ c) es same = (omega arith, refl)
@@ -83,6 +88,7 @@ module _ (p : SourceProgram) (s : State) where
   word_exits Base c es same = (omega arith, refl)
   word_exits Here c es same = fetch_exits (change 0 1) (length c) (access_at s.world.data_start false (s.world.data_start + 4)) s.world c s (omega arith, refl)
   word_exits Decimal c es same = store_exits (change 0 0) (length c) (access_at s.world.data_start true s.world.data_start) s.world 10 c s (omega arith, refl)
+  word_exits Hex c es same = store_exits (change 0 0) (length c) (access_at s.world.data_start true s.world.data_start) s.world 16 c s (omega arith, refl)
   word_exits Depth c es same = (omega arith, refl)
   word_exits ToR (x ∷ c) es same = (omega arith, refl)
   word_exits RFrom c (Cell x ∷ es) same = (omega arith, refl)

@@ -1,21 +1,21 @@
 -- A word leaves cells where it found cells.
 use Rattle.std.proofs.Common.{◌≡◌, ℕ, zero, suc, ◌+◌, ◌-◌, ◌*◌, ◌/◌, ◌%◌, ◌^◌, ◌<◌, Bool, true, false, ◌==◌, nat_lt, List, [], ◌∷◌, length, refl, subst, arith}
-use Rattle.std.specs.Prelude.{slice_index, slice_set, int_lt, pos}
+use Rattle.std.specs.Prelude.{slice_index, slice_set, int_lt, pos, not}
 use Rattle.std.proofs.lemmas.Nat.{and_le_l, xor_lt, or_lt}
 use Rattle.std.proofs.Math.Nat.{mod-lt, div-le_self}
 use Rattle.std.proofs.lemmas.Grind.{common_steps}
-use Rattle.cell_math.specs.Cell.{flag, signed, double_of}
+use Rattle.cell_math.specs.Cell.{difference_of, flag, signed, double_of}
 use Rattle.console_ports.specs.Ports.{access_at}
 use Rattle.console_ports.specs.declared.ports.Access.{Access as Met}
 use Rattle.console_ports.specs.declared.ports.Access.TheVariants as met
 use Rattle.word_table.specs.declared.word.Word.{Word}
-use Rattle.word_table.specs.declared.word.Word.TheVariants.{Dup, DropTop, Swap, Over, Rot, TwoDup, TwoDrop, Plus, Minus, Negate, OnePlus, OneMinus, TwoStar, And, Or, Xor, Invert, LShift, RShift, Equal, Less, Greater, ULess, ZeroEqual, ZeroLess, SToD}
+use Rattle.word_table.specs.declared.word.Word.TheVariants.{Nip, Tuck, ZeroGreater, NotEqual, Within, Hex, Dup, DropTop, Swap, Over, Rot, TwoDup, TwoDrop, Plus, Minus, Negate, OnePlus, OneMinus, TwoStar, And, Or, Xor, Invert, LShift, RShift, Equal, Less, Greater, ULess, ZeroEqual, ZeroLess, SToD}
 use Rattle.word_table.specs.declared.word.Word.TheVariants.{Cells, CellPlus, Chars, CharPlus, Aligned, Fetch, Store, Emit, Key, Blank, Cr, Space, Base, Here, Decimal, Depth, AbortRun, Quit, ToR, RFrom, RFetch, Index, OuterIndex, Unloop}
 use Rattle.forth_program.specs.State.{Entry, Cell, Loop, Work, Frame, World, State, Gives, ◌▸◌, Outcome, Goes, Ends}
 use Rattle.forth_program.specs.Access.{taken, fetch_by, store_by}
 use Rattle.forth_program.specs.Program.{SourceProgram}
 use Rattle.forth_program.specs.Step.{word_step, on_cells}
-use Rattle.word_laws.specs.Cells.{AreCells, AreEntries, IsWorld}
+use Rattle.forth_program.specs.Cells.{AreCells, AreEntries, IsWorld}
 use Rattle.word_laws.specs.Words.{stands_plain, IsKept, WordsLeaveCells}
 use Rattle.word_laws.proofs.Rows.{When, when}
 
@@ -83,6 +83,8 @@ module _ (p : SourceProgram) (work : List Work) (callers : List Frame) (o : Worl
   word_leaves Rot (z ∷ y ∷ x ∷ c) es f g = kept _ _ (f.1.1.0, (f.0, (f.1.0, f.1.1.1))) g
   word_leaves TwoDup (y ∷ x ∷ c) es f g = kept _ _ (f.0, (f.1.0, f)) g
   word_leaves TwoDrop (y ∷ x ∷ c) es f g = kept _ _ f.1.1 g
+  word_leaves Nip (y ∷ x ∷ c) es f g = kept _ _ (f.0, f.1.1) g
+  word_leaves Tuck (y ∷ x ∷ c) es f g = kept _ _ (f.0, (f.1.0, (f.0, f.1.1))) g
   word_leaves Plus (y ∷ x ∷ c) es f g = kept _ _ (omega arith, f.1.1) g
   word_leaves Minus (y ∷ x ∷ c) es f g = kept _ _ (omega arith, f.1.1) g
   word_leaves Negate (x ∷ c) es f g = kept _ _ (omega arith, f.1) g
@@ -100,11 +102,14 @@ module _ (p : SourceProgram) (work : List Work) (callers : List Frame) (o : Worl
   word_leaves LShift (u ∷ x ∷ c) es f g = kept _ _ (mod-lt (x * 2 ^ (u % 16)) (omega arith), f.1.1) g
   word_leaves RShift (u ∷ x ∷ c) es f g = kept _ _ (div_fits x (2 ^ (u % 16)) f.1.0, f.1.1) g
   word_leaves Equal (y ∷ x ∷ c) es f g = kept _ _ (flag_fits (x == y), f.1.1) g
+  word_leaves NotEqual (y ∷ x ∷ c) es f g = kept _ _ (flag_fits (not (x == y)), f.1.1) g
   word_leaves Less (y ∷ x ∷ c) es f g = kept _ _ (flag_fits (int_lt (signed x) (signed y)), f.1.1) g
   word_leaves Greater (y ∷ x ∷ c) es f g = kept _ _ (flag_fits (int_lt (signed y) (signed x)), f.1.1) g
   word_leaves ULess (y ∷ x ∷ c) es f g = kept _ _ (flag_fits (nat_lt x y), f.1.1) g
   word_leaves ZeroEqual (x ∷ c) es f g = kept _ _ (flag_fits (x == 0), f.1) g
   word_leaves ZeroLess (x ∷ c) es f g = kept _ _ (flag_fits (int_lt (signed x) (pos 0)), f.1) g
+  word_leaves ZeroGreater (x ∷ c) es f g = kept _ _ (flag_fits (int_lt (pos 0) (signed x)), f.1) g
+  word_leaves Within (b ∷ a ∷ u ∷ c) es f g = kept _ _ (flag_fits (nat_lt (difference_of u a) (difference_of b a)), f.1.1.1) g
   word_leaves SToD (x ∷ c) es f g = kept _ _ (mod-lt (double_of (signed x) / 65536) (omega arith), (mod-lt (double_of (signed x)) (omega arith), f.1)) g
   word_leaves Chars (x ∷ c) es f g = kept _ _ f g
   word_leaves Fetch (a ∷ c) es f g = fetch_leaves (at_state (a ∷ c) es) g o refl h (access_at o.data_start false a) (λ v. v ∷ c) (λ v k. (k, f.1))
@@ -117,6 +122,7 @@ module _ (p : SourceProgram) (work : List Work) (callers : List Frame) (o : Worl
   word_leaves Base c es f g = kept _ _ ((let starts = h.data_start in omega (arith, starts)), f) g
   word_leaves Here c es f g = fetch_leaves (at_state c es) g o refl h (access_at o.data_start false (o.data_start + 4)) (λ v. v ∷ c) (λ v k. (k, f))
   word_leaves Decimal c es f g = store_leaves (at_state c es) g o refl h (access_at o.data_start true o.data_start) 10 c (omega arith) f
+  word_leaves Hex c es f g = store_leaves (at_state c es) g o refl h (access_at o.data_start true o.data_start) 16 c (omega arith) f
   word_leaves Depth c es f g = kept _ _ (mod-lt (length c) (omega arith), f) g
   word_leaves AbortRun c es f g = tt
   word_leaves Quit c es f g = tt

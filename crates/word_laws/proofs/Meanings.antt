@@ -3,7 +3,7 @@ use Rattle.std.proofs.Common.{◌∙◌, ◌≡◌, ℕ, suc, ◌+◌, ◌-◌, 
 use Rattle.std.specs.Prelude.{map}
 use Rattle.j1_table.specs.Instruction.{decoded}
 use Rattle.word_table.specs.declared.word.Word.{Word}
-use Rattle.word_table.specs.declared.word.Word.TheVariants.{Base, Here, Decimal, RFrom, RFetch, Index, OuterIndex, Unloop}
+use Rattle.word_table.specs.declared.word.Word.TheVariants.{Base, Here, Decimal, Hex, RFrom, RFetch, Index, OuterIndex, Unloop}
 use Rattle.word_table.specs.Table.{entry_of, cells_of, cells_from}
 use Rattle.forth_program.specs.State.{Entry, Cell, Loop, Halted, InputEnded, Outside, Underflow, Unbalanced, Outcome, Goes, Ends}
 use Rattle.forth_program.specs.Step.{word_step}
@@ -12,7 +12,8 @@ use Rattle.j1_simulator.specs.Run.{run}
 use Rattle.word_laws.specs.Rings.{BeforeEach}
 use Rattle.word_laws.specs.Bounds.{StaysWithin}
 use Rattle.word_laws.specs.Standing.{return_places, standing_as, HasCome, StandIn}
-use Rattle.word_laws.specs.Words.{stands_plain, finds_entries, return_need, lacks, WordsDoTheirMeaning, WordsKeepTheirBounds, WordsEndWithinBounds}
+use Rattle.word_laws.specs.Words.{stands_plain, finds_entries, return_need, WordsDoTheirMeaning, WordsKeepTheirBounds, WordsEndWithinBounds}
+use Rattle.forth_program.specs.Run.{lacks}
 use Rattle.word_laws.proofs.Rows.{instructions_of, instructions_are, HasAll, when}
 use Rattle.word_laws.proofs.Walk.{word_stays}
 use Rattle.word_laws.proofs.WordWalks.{words_stay, ends_stay}
@@ -54,6 +55,7 @@ as_many : (data_start : ℕ) (word : Word) → length (instructions_of data_star
 as_many data_start Base = refl
 as_many data_start Here = refl
 as_many data_start Decimal = refl
+as_many data_start Hex = refl
 as_many data_start word = all (cells_of word)
   where
     all : (cells : List ℕ) → length (map decoded cells) ≡ length cells

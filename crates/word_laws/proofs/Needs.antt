@@ -5,14 +5,15 @@ use Rattle.console_ports.specs.Ports.{access_at}
 use Rattle.console_ports.specs.declared.ports.Access.{Access as Met}
 use Rattle.console_ports.specs.declared.ports.Access.TheVariants as met
 use Rattle.word_table.specs.declared.word.Word.{Word}
-use Rattle.word_table.specs.declared.word.Word.TheVariants.{Dup, DropTop, Swap, Over, Rot, TwoDup, TwoDrop, Plus, Minus, Negate, OnePlus, OneMinus, TwoStar, And, Or, Xor, Invert, LShift, RShift, Equal, Less, Greater, ULess, ZeroEqual, ZeroLess, SToD}
+use Rattle.word_table.specs.declared.word.Word.TheVariants.{Nip, Tuck, ZeroGreater, NotEqual, Within, Hex, Dup, DropTop, Swap, Over, Rot, TwoDup, TwoDrop, Plus, Minus, Negate, OnePlus, OneMinus, TwoStar, And, Or, Xor, Invert, LShift, RShift, Equal, Less, Greater, ULess, ZeroEqual, ZeroLess, SToD}
 use Rattle.word_table.specs.declared.word.Word.TheVariants.{Cells, CellPlus, Chars, CharPlus, Aligned, Fetch, Store, Emit, Key, Blank, Cr, Space, Base, Here, Decimal, Depth, AbortRun, Quit, ToR, RFrom, RFetch, Index, OuterIndex, Unloop}
 use Rattle.word_table.specs.Table.{entry_of}
 use Rattle.forth_program.specs.State.{Entry, Cell, Loop, World, State, Gives, ◌▸◌}
 use Rattle.forth_program.specs.Access.{taken, fetch_by, store_by}
 use Rattle.forth_program.specs.Program.{SourceProgram}
 use Rattle.forth_program.specs.Step.{word_step, on_cells}
-use Rattle.word_laws.specs.Words.{stands_plain, finds_entries, lacks, NeedsAreExact}
+use Rattle.word_laws.specs.Words.{stands_plain, finds_entries, NeedsAreExact}
+use Rattle.forth_program.specs.Run.{lacks}
 use Rattle.word_laws.proofs.Rows.{When, when}
 
 -- lists of so many cells at least
@@ -70,6 +71,8 @@ module _ (p : SourceProgram) (s : State) where
   finds Rot c es n e = with_three (λ c. lacks (word_step p Rot c es s) ≡ false) (λ z y x c. refl) c n
   finds TwoDup c es n e = with_two (λ c. lacks (word_step p TwoDup c es s) ≡ false) (λ y x c. refl) c n
   finds TwoDrop c es n e = with_two (λ c. lacks (word_step p TwoDrop c es s) ≡ false) (λ y x c. refl) c n
+  finds Nip c es n e = with_two (λ c. lacks (word_step p Nip c es s) ≡ false) (λ y x c. refl) c n
+  finds Tuck c es n e = with_two (λ c. lacks (word_step p Tuck c es s) ≡ false) (λ y x c. refl) c n
   finds Plus c es n e = with_two (λ c. lacks (word_step p Plus c es s) ≡ false) (λ y x c. refl) c n
   finds Minus c es n e = with_two (λ c. lacks (word_step p Minus c es s) ≡ false) (λ y x c. refl) c n
   finds Negate c es n e = with_one (λ c. lacks (word_step p Negate c es s) ≡ false) (λ x c. refl) c n
@@ -89,6 +92,9 @@ module _ (p : SourceProgram) (s : State) where
   finds ZeroEqual c es n e = with_one (λ c. lacks (word_step p ZeroEqual c es s) ≡ false) (λ x c. refl) c n
   finds ZeroLess c es n e = with_one (λ c. lacks (word_step p ZeroLess c es s) ≡ false) (λ x c. refl) c n
   finds SToD c es n e = with_one (λ c. lacks (word_step p SToD c es s) ≡ false) (λ x c. refl) c n
+  finds ZeroGreater c es n e = with_one (λ c. lacks (word_step p ZeroGreater c es s) ≡ false) (λ x c. refl) c n
+  finds NotEqual c es n e = with_two (λ c. lacks (word_step p NotEqual c es s) ≡ false) (λ y x c. refl) c n
+  finds Within c es n e = with_three (λ c. lacks (word_step p Within c es s) ≡ false) (λ z y x c. refl) c n
   finds Cells c es n e = with_one (λ c. lacks (word_step p Cells c es s) ≡ false) (λ x c. refl) c n
   finds CellPlus c es n e = with_one (λ c. lacks (word_step p CellPlus c es s) ≡ false) (λ x c. refl) c n
   finds Chars c es n e = with_one (λ c. lacks (word_step p Chars c es s) ≡ false) (λ x c. refl) c n
@@ -104,6 +110,7 @@ module _ (p : SourceProgram) (s : State) where
   finds Base c es n e = refl
   finds Here c es n e = fetch_lacks (access_at s.world.data_start false (s.world.data_start + 4)) s.world (λ v. v ∷ c) s
   finds Decimal c es n e = store_lacks (access_at s.world.data_start true s.world.data_start) s.world 10 c s
+  finds Hex c es n e = store_lacks (access_at s.world.data_start true s.world.data_start) s.world 16 c s
   finds Depth c es n e = refl
   finds AbortRun c es n e = refl
   finds Quit c es n e = refl
@@ -136,6 +143,8 @@ module _ (p : SourceProgram) (s : State) where
   short Rot c es n = under_three (λ c. lacks (word_step p Rot c es s) ≡ true) refl (λ x. refl) (λ y x. refl) c n
   short TwoDup c es n = under_two (λ c. lacks (word_step p TwoDup c es s) ≡ true) refl (λ x. refl) c n
   short TwoDrop c es n = under_two (λ c. lacks (word_step p TwoDrop c es s) ≡ true) refl (λ x. refl) c n
+  short Nip c es n = under_two (λ c. lacks (word_step p Nip c es s) ≡ true) refl (λ x. refl) c n
+  short Tuck c es n = under_two (λ c. lacks (word_step p Tuck c es s) ≡ true) refl (λ x. refl) c n
   short Plus c es n = under_two (λ c. lacks (word_step p Plus c es s) ≡ true) refl (λ x. refl) c n
   short Minus c es n = under_two (λ c. lacks (word_step p Minus c es s) ≡ true) refl (λ x. refl) c n
   short Negate c es n = under_one (λ c. lacks (word_step p Negate c es s) ≡ true) refl c n
@@ -155,6 +164,9 @@ module _ (p : SourceProgram) (s : State) where
   short ZeroEqual c es n = under_one (λ c. lacks (word_step p ZeroEqual c es s) ≡ true) refl c n
   short ZeroLess c es n = under_one (λ c. lacks (word_step p ZeroLess c es s) ≡ true) refl c n
   short SToD c es n = under_one (λ c. lacks (word_step p SToD c es s) ≡ true) refl c n
+  short ZeroGreater c es n = under_one (λ c. lacks (word_step p ZeroGreater c es s) ≡ true) refl c n
+  short NotEqual c es n = under_two (λ c. lacks (word_step p NotEqual c es s) ≡ true) refl (λ x. refl) c n
+  short Within c es n = under_three (λ c. lacks (word_step p Within c es s) ≡ true) refl (λ x. refl) (λ y x. refl) c n
   short Cells c es n = under_one (λ c. lacks (word_step p Cells c es s) ≡ true) refl c n
   short CellPlus c es n = under_one (λ c. lacks (word_step p CellPlus c es s) ≡ true) refl c n
   short Chars c es n = under_one (λ c. lacks (word_step p Chars c es s) ≡ true) refl c n
@@ -170,6 +182,7 @@ module _ (p : SourceProgram) (s : State) where
   short Base c es n = absurd (omega arith)
   short Here c es n = absurd (omega arith)
   short Decimal c es n = absurd (omega arith)
+  short Hex c es n = absurd (omega arith)
   short Depth c es n = absurd (omega arith)
   short AbortRun c es n = absurd (omega arith)
   short Quit c es n = absurd (omega arith)
@@ -207,6 +220,8 @@ module _ (p : SourceProgram) (s : State) where
   others Rot c es e = cc
   others TwoDup c es e = cc
   others TwoDrop c es e = cc
+  others Nip c es e = cc
+  others Tuck c es e = cc
   others Plus c es e = cc
   others Minus c es e = cc
   others Negate c es e = cc
@@ -226,6 +241,9 @@ module _ (p : SourceProgram) (s : State) where
   others ZeroEqual c es e = cc
   others ZeroLess c es e = cc
   others SToD c es e = cc
+  others ZeroGreater c es e = cc
+  others NotEqual c es e = cc
+  others Within c es e = cc
   others Cells c es e = cc
   others CellPlus c es e = cc
   others Chars c es e = cc
@@ -241,6 +259,7 @@ module _ (p : SourceProgram) (s : State) where
   others Base c es e = cc
   others Here c es e = cc
   others Decimal c es e = cc
+  others Hex c es e = cc
   others Depth c es e = cc
   others AbortRun c es e = cc
   others Quit c es e = cc

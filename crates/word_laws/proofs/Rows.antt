@@ -6,7 +6,7 @@ use Rattle.j1_table.specs.declared.instr.Instr.{Instr}
 use Rattle.j1_table.specs.declared.instr.Instr.TheVariants.{Literal}
 use Rattle.j1_table.specs.Instruction.{decoded}
 use Rattle.word_table.specs.declared.word.Word.{Word}
-use Rattle.word_table.specs.declared.word.Word.TheVariants.{Base, Here, Decimal}
+use Rattle.word_table.specs.declared.word.Word.TheVariants.{Base, Here, Decimal, Hex}
 use Rattle.word_table.specs.Table.{cells_of, cells_from}
 use Rattle.forth_program.specs.State.{World, Outcome, Goes, Ends}
 use Rattle.j1_simulator.specs.Effect.{effect, following}
@@ -22,6 +22,7 @@ abbrev pub instructions_of : ℕ → Word → List Instr
 instructions_of data_start Base = Literal data_start ∷ []
 instructions_of data_start Here = Literal (data_start + 4) ∷ decoded 0x6C00 ∷ []
 instructions_of data_start Decimal = decoded 0x800A ∷ Literal data_start ∷ decoded 0x6023 ∷ decoded 0x6103 ∷ []
+instructions_of data_start Hex = decoded 0x8010 ∷ Literal data_start ∷ decoded 0x6023 ∷ decoded 0x6103 ∷ []
 instructions_of data_start word = map decoded (cells_of word)
 
 -- a cell from 0x8000 on is a literal
@@ -42,6 +43,7 @@ pub instructions_are : (data_start : ℕ) (word : Word) → map decoded (cells_f
 instructions_are data_start Base = ap (λ i. i ∷ []) (literal_of data_start)
 instructions_are data_start Here = ap (λ i. i ∷ decoded 0x6C00 ∷ []) (literal_of (data_start + 4))
 instructions_are data_start Decimal = ap (λ i. decoded 0x800A ∷ i ∷ decoded 0x6023 ∷ decoded 0x6103 ∷ []) (literal_of data_start)
+instructions_are data_start Hex = ap (λ i. decoded 0x8010 ∷ i ∷ decoded 0x6023 ∷ decoded 0x6103 ∷ []) (literal_of data_start)
 instructions_are data_start word = refl
 
 -- each instruction by its effect, without its fetch

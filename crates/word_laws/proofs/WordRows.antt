@@ -1,12 +1,12 @@
 -- Each word's cells do what the word means, wherever they stand.
 use Rattle.std.proofs.Common.{◌≡◌, ℕ, suc, ◌+◌, ◌-◌, ◌*◌, ◌/◌, ◌%◌, ◌<◌, ◌≤◌, Bool, true, false, List, [], ◌∷◌, length, Option, ℤ, pos, negsuc, ◌+ℤ◌, refl, ap, ◌∙◌, arith, leb-true, ltb-false}
-use Rattle.std.specs.Prelude.{bit_and, bit_or, bit_xor, int_lt, nat_lt, if◌then◌else◌}
+use Rattle.std.specs.Prelude.{bit_and, bit_or, bit_xor, ◌==◌, int_lt, nat_lt, not, if◌then◌else◌}
 use Rattle.std.proofs.lemmas.Nat.{and_mask, and_comm, or_comm, xor_comm}
 use Rattle.std.proofs.lemmas.Nat.Bits.{and_high_mask}
 use Rattle.std.proofs.lemmas.Bool.{le-ltb}
 use Rattle.cell_math.specs.Cell.{sum_of, difference_of, flag, signed, double_of, low_cell, high_cell}
 use Rattle.word_table.specs.declared.word.Word.{Word}
-use Rattle.word_table.specs.declared.word.Word.TheVariants.{Dup, DropTop, Swap, Over, Rot, TwoDup, TwoDrop, Plus, Minus, Negate, OnePlus, OneMinus, TwoStar, And, Or, Xor, Invert, LShift, RShift, Equal, Less, Greater, ULess, ZeroEqual, ZeroLess, SToD}
+use Rattle.word_table.specs.declared.word.Word.TheVariants.{Nip, Tuck, ZeroGreater, NotEqual, Within, Hex, Dup, DropTop, Swap, Over, Rot, TwoDup, TwoDrop, Plus, Minus, Negate, OnePlus, OneMinus, TwoStar, And, Or, Xor, Invert, LShift, RShift, Equal, Less, Greater, ULess, ZeroEqual, ZeroLess, SToD}
 use Rattle.word_table.specs.declared.word.Word.TheVariants.{Cells, CellPlus, Chars, CharPlus, Aligned, Fetch, Store, Emit, Key, Blank, Cr, Space, Base, Here, Decimal, Depth, AbortRun, Quit, ToR, RFrom, RFetch, Index, OuterIndex, Unloop}
 use Rattle.forth_program.specs.State.{Entry, Cell, Loop, Work, Frame, World, State, Goes}
 use Rattle.forth_program.specs.Program.{SourceProgram}
@@ -14,7 +14,7 @@ use Rattle.forth_program.specs.Step.{word_step}
 use Rattle.j1_simulator.specs.RoundMachine.{around}
 use Rattle.j1_simulator.specs.Effect.{following}
 use Rattle.word_laws.specs.Rings.{OpenConfiguration}
-use Rattle.word_laws.specs.Cells.{AreCells, AreEntries}
+use Rattle.forth_program.specs.Cells.{AreCells, AreEntries}
 use Rattle.word_laws.specs.Standing.{return_places, standing}
 use Rattle.word_laws.specs.Words.{stands_plain, CellsApply}
 use Rattle.word_laws.proofs.AccessRows.{fetch_row, store_row}
@@ -22,6 +22,18 @@ use Rattle.word_laws.proofs.Rows.{instructions_of, feed, past, data_past, return
 
 aligned : (x : ℕ) → bit_and 65534 ((1 + x) % 65536) ≡ (x + 1) % 65536 / 2 * 2
 aligned x = and_comm 65534 ((1 + x) % 65536) ∙ and_high_mask 16 1 (omega arith) ((1 + x) % 65536) (omega arith) ∙ omega arith
+
+-- INVERT turns a flag
+flag_turned : (b : Bool) → 65535 - flag b ≡ flag (not b)
+flag_turned true = refl
+flag_turned false = refl
+
+-- a difference by INVERT, + and 1+
+difference_is : (x y : ℕ) → x < 0x10000 → y < 0x10000 → sum_of 1 (sum_of (65535 - y) x) ≡ difference_of x y
+difference_is x y h k = omega arith
+
+within_is : (u a b : ℕ) → u < 0x10000 → a < 0x10000 → b < 0x10000 → flag (nat_lt (sum_of 1 (sum_of (65535 - a) u)) (sum_of 1 (sum_of (65535 - a) b))) ≡ flag (nat_lt (difference_of u a) (difference_of b a))
+within_is u a b h k m = ap (λ x. flag (nat_lt x (sum_of 1 (sum_of (65535 - a) b)))) (difference_is u a h k) ∙ ap (λ x. flag (nat_lt (difference_of u a) x)) (difference_is b a m k)
 
 -- DEPTH takes the lowest five bits
 depth_is : (b d n : ℕ) → d ≡ n % 32 → n ≤ 31 → bit_and 31 (b * 256 + d) ≡ n % 65536
@@ -68,6 +80,8 @@ module _ (p : SourceProgram) (work : List Work) (callers : List Frame) (o : Worl
     word_row Rot (z ∷ y ∷ x ∷ c) es n f g h = (_, _, refl)
     word_row TwoDup (y ∷ x ∷ c) es n f g h = (_, _, refl)
     word_row TwoDrop (y ∷ x ∷ c) es n f g h = (_, _, refl)
+    word_row Nip (y ∷ x ∷ c) es n f g h = (_, _, refl)
+    word_row Tuck (y ∷ x ∷ c) es n f g h = (_, _, refl)
     word_row Plus (y ∷ x ∷ c) es n f g h = renamed _ _ (sum_of y x ∷ c) _ (at_state (y ∷ x ∷ c) es) _ _ _ _ refl (top c (omega arith))
     word_row Minus (y ∷ x ∷ c) es n f g h = renamed _ _ (sum_of 1 (sum_of (65535 - y) x) ∷ c) _ (at_state (y ∷ x ∷ c) es) _ _ _ _ refl (top c (omega (arith, f.0)))
     word_row Negate (x ∷ c) es n f g h = renamed _ _ (sum_of 1 (65535 - x) ∷ c) _ (at_state (x ∷ c) es) _ _ _ _ refl (top c (omega (arith, f.0)))
@@ -81,11 +95,15 @@ module _ (p : SourceProgram) (work : List Work) (callers : List Frame) (o : Worl
     word_row LShift (y ∷ x ∷ c) es n f g h = (_, _, refl)
     word_row RShift (y ∷ x ∷ c) es n f g h = (_, _, refl)
     word_row Equal (y ∷ x ∷ c) es n f g h = (_, _, refl)
+    word_row NotEqual (y ∷ x ∷ c) es n f g h = renamed _ _ ((65535 - flag (x == y)) ∷ c) _ (at_state (y ∷ x ∷ c) es) _ _ _ _ refl (top c (flag_turned (x == y)))
     word_row Less (y ∷ x ∷ c) es n f g h = (_, _, refl)
     word_row Greater (y ∷ x ∷ c) es n f g h = (_, _, refl)
     word_row ULess (y ∷ x ∷ c) es n f g h = (_, _, refl)
     word_row ZeroEqual (x ∷ c) es n f g h = (_, _, refl)
     word_row ZeroLess (x ∷ c) es n f g h = (_, _, refl)
+    word_row ZeroGreater (x ∷ c) es n f g h = (_, _, refl)
+    word_row Within (b ∷ a ∷ u ∷ c) es n f g h =
+        renamed _ _ (flag (nat_lt (sum_of 1 (sum_of (65535 - a) u)) (sum_of 1 (sum_of (65535 - a) b))) ∷ c) _ (at_state (b ∷ a ∷ u ∷ c) es) _ _ _ _ refl (top c (within_is u a b f.1.1.0 f.1.0 f.0))
     word_row SToD (x ∷ c) es n f g h = renamed _ _ (flag (int_lt (signed x) (pos 0)) ∷ x ∷ c) _ (at_state (x ∷ c) es) _ _ _ _ refl (widened x c f.0)
     word_row Cells (x ∷ c) es n f g h = renamed _ _ ((x * 2 % 65536) ∷ c) _ (at_state (x ∷ c) es) _ _ _ _ refl (top c (omega arith))
     word_row CellPlus (x ∷ c) es n f g h = renamed _ _ (sum_of 2 x ∷ c) _ (at_state (x ∷ c) es) _ _ _ _ refl (top c (omega arith))
@@ -109,6 +127,8 @@ module _ (p : SourceProgram) (work : List Work) (callers : List Frame) (o : Worl
     word_row Here (y ∷ c) es n f g h = fetch_row code base (at_state (y ∷ c) es) o size (following pc) (o.data_start + 4) (y ∷ c) _ ra (d +ℤ pos 1) (b +ℤ pos 0)
     word_row Decimal [] es n f g h = store_row code base (at_state [] es) o size (following (following pc)) o.data_start 10 [] _ ra (d +ℤ pos 1 +ℤ pos 1) (b +ℤ pos 0 +ℤ pos 0)
     word_row Decimal (y ∷ c) es n f g h = store_row code base (at_state (y ∷ c) es) o size (following (following pc)) o.data_start 10 (y ∷ c) _ ra (d +ℤ pos 1 +ℤ pos 1) (b +ℤ pos 0 +ℤ pos 0)
+    word_row Hex [] es n f g h = store_row code base (at_state [] es) o size (following (following pc)) o.data_start 16 [] _ ra (d +ℤ pos 1 +ℤ pos 1) (b +ℤ pos 0 +ℤ pos 0)
+    word_row Hex (y ∷ c) es n f g h = store_row code base (at_state (y ∷ c) es) o size (following (following pc)) o.data_start 16 (y ∷ c) _ ra (d +ℤ pos 1 +ℤ pos 1) (b +ℤ pos 0 +ℤ pos 0)
     word_row Depth [] es n f g h = renamed _ _ (bit_and 31 (around b * 256 + around d) ∷ []) _ (at_state [] es) _ _ _ _ refl (top [] (depth_is (around b) (around d) 0 (ap around n) h))
     word_row Depth (y ∷ c) es n f g h = renamed _ _ (bit_and 31 (around b * 256 + around d) ∷ y ∷ c) _ (at_state (y ∷ c) es) _ _ _ _ refl (top (y ∷ c) (depth_is (around b) (around d) (length (y ∷ c)) (ap around n) h))
     word_row AbortRun [] es n f g h = record { stop_is = refl; memory = refl; input = refl; printed = refl }

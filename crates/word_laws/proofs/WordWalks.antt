@@ -1,7 +1,7 @@
 -- Each word keeps to its need, its peak and its back at each of its cells, by computation.
 use Rattle.std.proofs.Common.{◌≡◌, ℕ, ◌≤◌, true, false, List, length, refl}
 use Rattle.word_table.specs.declared.word.Word.{Word}
-use Rattle.word_table.specs.declared.word.Word.TheVariants.{Dup, DropTop, Swap, Over, Rot, TwoDup, TwoDrop, Plus, Minus, Negate, OnePlus, OneMinus, TwoStar, And, Or, Xor, Invert, LShift, RShift, Equal, Less, Greater, ULess, ZeroEqual, ZeroLess, SToD}
+use Rattle.word_table.specs.declared.word.Word.TheVariants.{Nip, Tuck, ZeroGreater, NotEqual, Within, Hex, Dup, DropTop, Swap, Over, Rot, TwoDup, TwoDrop, Plus, Minus, Negate, OnePlus, OneMinus, TwoStar, And, Or, Xor, Invert, LShift, RShift, Equal, Less, Greater, ULess, ZeroEqual, ZeroLess, SToD}
 use Rattle.word_table.specs.declared.word.Word.TheVariants.{Cells, CellPlus, Chars, CharPlus, Aligned, Fetch, Store, Emit, Key, Blank, Cr, Space, Base, Here, Decimal, Depth, AbortRun, Quit, ToR, RFrom, RFetch, Index, OuterIndex, Unloop}
 use Rattle.word_table.specs.Table.{entry_of}
 use Rattle.forth_program.specs.State.{Entry, World, State, End, Ends}
@@ -20,6 +20,8 @@ words_stay data_start Over = refl
 words_stay data_start Rot = refl
 words_stay data_start TwoDup = refl
 words_stay data_start TwoDrop = refl
+words_stay data_start Nip = refl
+words_stay data_start Tuck = refl
 words_stay data_start Plus = refl
 words_stay data_start Minus = refl
 words_stay data_start Negate = refl
@@ -39,6 +41,9 @@ words_stay data_start ULess = refl
 words_stay data_start ZeroEqual = refl
 words_stay data_start ZeroLess = refl
 words_stay data_start SToD = refl
+words_stay data_start ZeroGreater = refl
+words_stay data_start NotEqual = refl
+words_stay data_start Within = refl
 words_stay data_start Cells = refl
 words_stay data_start CellPlus = refl
 words_stay data_start Chars = refl
@@ -54,6 +59,7 @@ words_stay data_start Space = refl
 words_stay data_start Base = refl
 words_stay data_start Here = refl
 words_stay data_start Decimal = refl
+words_stay data_start Hex = refl
 words_stay data_start Depth = refl
 words_stay data_start AbortRun = refl
 words_stay data_start Quit = refl
@@ -75,6 +81,8 @@ ends_stay data_start p s Over c es end world n e = refl
 ends_stay data_start p s Rot c es end world n e = refl
 ends_stay data_start p s TwoDup c es end world n e = refl
 ends_stay data_start p s TwoDrop c es end world n e = refl
+ends_stay data_start p s Nip c es end world n e = refl
+ends_stay data_start p s Tuck c es end world n e = refl
 ends_stay data_start p s Plus c es end world n e = refl
 ends_stay data_start p s Minus c es end world n e = refl
 ends_stay data_start p s Negate c es end world n e = refl
@@ -94,6 +102,9 @@ ends_stay data_start p s ULess c es end world n e = refl
 ends_stay data_start p s ZeroEqual c es end world n e = refl
 ends_stay data_start p s ZeroLess c es end world n e = refl
 ends_stay data_start p s SToD c es end world n e = refl
+ends_stay data_start p s ZeroGreater c es end world n e = refl
+ends_stay data_start p s NotEqual c es end world n e = refl
+ends_stay data_start p s Within c es end world n e = refl
 ends_stay data_start p s Cells c es end world n e = refl
 ends_stay data_start p s CellPlus c es end world n e = refl
 ends_stay data_start p s Chars c es end world n e = refl
@@ -109,6 +120,7 @@ ends_stay data_start p s Space c es end world n e = refl
 ends_stay data_start p s Base c es end world n e = refl
 ends_stay data_start p s Here c es end world n e = refl
 ends_stay data_start p s Decimal c es end world n e = refl
+ends_stay data_start p s Hex c es end world n e = refl
 ends_stay data_start p s Depth c es end world n e = refl
 ends_stay data_start p s AbortRun c es end world n e = refl
 ends_stay data_start p s Quit c es end world n e = refl

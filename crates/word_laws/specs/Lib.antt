@@ -1,6 +1,5 @@
 pub mod Rings
 pub mod Standing
-pub mod Cells
 pub mod Bounds
 pub mod Words
 pub mod Numbers

@@ -5,14 +5,15 @@ use Rattle.word_table.specs.declared.word.Class.TheVariants as class
 use Rattle.word_table.specs.declared.word.Word.{Word}
 use Rattle.word_table.specs.declared.word.Word.TheVariants.{ToR, RFrom, RFetch, Index, OuterIndex, Unloop, Depth}
 use Rattle.word_table.specs.Table.{entry_of, cells_of, cells_from}
-use Rattle.forth_program.specs.State.{Entry, Cell, Loop, World, State, End, Underflow, Unbalanced, Outcome, Goes, Ends}
+use Rattle.forth_program.specs.State.{Entry, Cell, Loop, World, State, End, Goes, Ends}
 use Rattle.forth_program.specs.Program.{SourceProgram}
 use Rattle.forth_program.specs.Step.{word_step}
+use Rattle.forth_program.specs.Run.{lacks}
 use Rattle.j1_simulator.specs.OpenMachine.{open_storage}
 use Rattle.j1_simulator.specs.Run.{run}
 use Rattle.word_laws.specs.Rings.{BeforeEach}
 use Rattle.word_laws.specs.Bounds.{StaysWithin}
-use Rattle.word_laws.specs.Cells.{AreCells, AreEntries, IsWorld}
+use Rattle.forth_program.specs.Cells.{AreCells, AreEntries, IsWorld}
 use Rattle.word_laws.specs.Standing.{return_places, standing_as, HasCome, StandIn}
 
 abbrev pub is_inline : Class → Bool
@@ -92,13 +93,6 @@ WordsEndWithinBounds =
     StaysWithin (length s.cells - (entry_of word).need) (length s.cells + (entry_of word).peak)
     (length (return_places s.entries base) - return_need word) (length (return_places s.entries base) + (entry_of word).back)
     (run open_storage s.world.data_start (length (cells_of word)) (standing_as s code pc base data_above return_above))
-
--- a run that has ended because too few cells or other entries were found
-abbrev pub lacks : Outcome → Bool
-lacks (Goes s) = false
-lacks (Ends Underflow world) = true
-lacks (Ends Unbalanced world) = true
-lacks (Ends end world) = false
 
 -- such a word lacks nothing exactly where the cells are as many as its need, and its entries are found
 abbrev pub NeedsAreExact : Type 0

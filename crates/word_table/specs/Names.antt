@@ -9,7 +9,7 @@ use Rattle.word_table.specs.declared.word.Word.TheVariants.{TwoSlash, CFetch, CS
 use Rattle.word_table.specs.declared.word.Word.TheVariants.{FMSlashMod, SlashMod, Slash, Mod, StarSlashMod, StarSlash, LessSharp, Hold, Sign, Sharp, SharpS, SharpGreater, Dot, UDot, TypeOut, Spaces}
 use Rattle.word_table.specs.declared.word.Word.TheVariants.{Fill, Move, Accept, ToNumber, Execute, SQuote, DotQuote, AbortQuote, If, While, Until, Else, Repeat, Then, Begin, Do, Loop, PlusLoop, Leave}
 use Rattle.word_table.specs.declared.word.Word.TheVariants.{Exit, Semicolon, Recurse, BracketTick, BracketChar, Literal, LeftBracket, RightBracket, Paren, Backslash, Colon, Tick, Char, Constant}
-use Rattle.word_table.specs.declared.word.Word.TheVariants.{Variable, Create, Does, ToBody, QDo, Again, Case, Of, EndOf, EndCase}
+use Rattle.word_table.specs.declared.word.Word.TheVariants.{Variable, Create, Does, ToBody, QDo, Again, Case, Of, EndOf, EndCase, Nip, Tuck, ZeroGreater, NotEqual, Within, Hex, CodeCells}
 use Rattle.word_table.specs.Table.{row}
 
 -- the name of a word, letters in upper case
@@ -23,15 +23,15 @@ is_named text word = bytes_eq (str_to_ascii_lowercase text) (str_to_ascii_lowerc
 -- every word, in the order of the table
 abbrev pub all_words : List Word
 all_words =
-    Dup ∷ DropTop ∷ Swap ∷ Over ∷ Rot ∷ TwoDup ∷ TwoDrop ∷ Plus ∷ Minus ∷ Negate ∷ OnePlus ∷ OneMinus ∷ TwoStar ∷ And ∷ Or ∷ Xor ∷
-    Invert ∷ LShift ∷ RShift ∷ Equal ∷ Less ∷ Greater ∷ ULess ∷ ZeroEqual ∷ ZeroLess ∷ SToD ∷ Cells ∷ CellPlus ∷ Chars ∷ CharPlus ∷
-    Aligned ∷ Fetch ∷ Store ∷ Emit ∷ Key ∷ Blank ∷ Cr ∷ Space ∷ Base ∷ Here ∷ Decimal ∷ Depth ∷ AbortRun ∷ Quit ∷ ToR ∷ RFrom ∷ RFetch ∷
+    Dup ∷ DropTop ∷ Swap ∷ Over ∷ Rot ∷ TwoDup ∷ TwoDrop ∷ Nip ∷ Tuck ∷ Plus ∷ Minus ∷ Negate ∷ OnePlus ∷ OneMinus ∷ TwoStar ∷ And ∷ Or ∷ Xor ∷
+    Invert ∷ LShift ∷ RShift ∷ Equal ∷ Less ∷ Greater ∷ ULess ∷ ZeroEqual ∷ ZeroLess ∷ SToD ∷ ZeroGreater ∷ NotEqual ∷ Within ∷ Cells ∷ CellPlus ∷ Chars ∷ CharPlus ∷
+    Aligned ∷ Fetch ∷ Store ∷ Emit ∷ Key ∷ Blank ∷ Cr ∷ Space ∷ Base ∷ Here ∷ Decimal ∷ Depth ∷ Hex ∷ AbortRun ∷ Quit ∷ ToR ∷ RFrom ∷ RFetch ∷
     Index ∷ OuterIndex ∷ Unloop ∷ QDup ∷ TwoSwap ∷ TwoOver ∷ Abs ∷ Max ∷ Min ∷ TwoSlash ∷ CFetch ∷ CStore ∷ PlusStore ∷ TwoFetch ∷
     TwoStore ∷ Count ∷ Comma ∷ CComma ∷ Allot ∷ Align ∷ UMStar ∷ MStar ∷ Star ∷ UMSlashMod ∷ SMSlashRem ∷ FMSlashMod ∷ SlashMod ∷
     Slash ∷ Mod ∷ StarSlashMod ∷ StarSlash ∷ LessSharp ∷ Hold ∷ Sign ∷ Sharp ∷ SharpS ∷ SharpGreater ∷ Dot ∷ UDot ∷ TypeOut ∷ Spaces ∷
     Fill ∷ Move ∷ Accept ∷ ToNumber ∷ Execute ∷ SQuote ∷ DotQuote ∷ AbortQuote ∷ If ∷ While ∷ Until ∷ Else ∷ Repeat ∷ Then ∷ Begin ∷
     Do ∷ Loop ∷ PlusLoop ∷ QDo ∷ Again ∷ Case ∷ Of ∷ EndOf ∷ EndCase ∷ Leave ∷ Exit ∷ Semicolon ∷ Recurse ∷ BracketTick ∷ BracketChar ∷ Literal ∷ LeftBracket ∷ RightBracket ∷
-    Paren ∷ Backslash ∷ Colon ∷ Tick ∷ Char ∷ Constant ∷ Variable ∷ Create ∷ Does ∷ ToBody ∷ []
+    Paren ∷ Backslash ∷ Colon ∷ Tick ∷ Char ∷ Constant ∷ Variable ∷ Create ∷ Does ∷ ToBody ∷ CodeCells ∷ []
 
 -- the first of these words whose name is this text in lower case
 abbrev pub first_named : List ℕ → List Word → Option Word

@@ -8,7 +8,7 @@ use Rattle.word_table.specs.declared.word.Word.TheVariants.{CStore, PlusStore, T
 use Rattle.word_table.specs.declared.word.Word.TheVariants.{Slash, Mod, StarSlashMod, StarSlash, LessSharp, Hold, Sign, Sharp, SharpS, SharpGreater, Dot, UDot, TypeOut, Spaces, Fill, Move, Accept}
 use Rattle.word_table.specs.declared.word.Word.TheVariants.{ToNumber, Execute, SQuote, DotQuote, AbortQuote, If, While, Until, Else, Repeat, Then, Begin, Do, Loop, PlusLoop, Leave, Exit, Semicolon}
 use Rattle.word_table.specs.declared.word.Word.TheVariants.{Recurse, BracketTick, BracketChar, Literal, LeftBracket, RightBracket, Paren, Backslash, Colon, Tick, Char, Constant, Variable, Create, Does}
-use Rattle.word_table.specs.declared.word.Word.TheVariants.{ToBody, QDo, Again, Case, Of, EndOf, EndCase}
+use Rattle.word_table.specs.declared.word.Word.TheVariants.{ToBody, QDo, Again, Case, Of, EndOf, EndCase, Nip, Tuck, ZeroGreater, NotEqual, Within, Hex, CodeCells}
 use Rattle.word_table.specs.declared.word.WordEntry.{WordEntry}
 use Rattle.word_table.specs.Row.{Row, change, inline, never, on_returns, library, structure, host}
 
@@ -22,6 +22,8 @@ row Over = inline "OVER" 2 3 1 0 (0x6181 ∷ [])
 row Rot = inline "ROT" 3 3 0 1 (0x6147 ∷ 0x6180 ∷ 0x6B8D ∷ 0x6180 ∷ [])
 row TwoDup = inline "2DUP" 2 4 2 0 (0x6181 ∷ 0x6181 ∷ [])
 row TwoDrop = inline "2DROP" 2 0 0 0 (0x6103 ∷ 0x6103 ∷ [])
+row Nip = inline "NIP" 2 1 0 0 (0x6003 ∷ [])
+row Tuck = inline "TUCK" 2 3 1 0 (0x6180 ∷ 0x6181 ∷ [])
 row Plus = inline "+" 2 1 0 0 (0x6203 ∷ [])
 row Minus = inline "-" 2 1 0 0 (0x6600 ∷ 0x6203 ∷ 0x8001 ∷ 0x6203 ∷ [])
 row Negate = inline "NEGATE" 1 1 1 0 (0x6600 ∷ 0x8001 ∷ 0x6203 ∷ [])
@@ -41,6 +43,9 @@ row ULess = inline "U<" 2 1 0 0 (0x6F03 ∷ [])
 row ZeroEqual = inline "0=" 1 1 1 0 (0x8000 ∷ 0x6703 ∷ [])
 row ZeroLess = inline "0<" 1 1 1 0 (0x8000 ∷ 0x6803 ∷ [])
 row SToD = inline "S>D" 1 2 2 0 (0x6081 ∷ 0x8000 ∷ 0x6803 ∷ [])
+row ZeroGreater = inline "0>" 1 1 1 0 (0x8000 ∷ 0x6180 ∷ 0x6803 ∷ [])
+row NotEqual = inline "<>" 2 1 0 0 (0x6703 ∷ 0x6600 ∷ [])
+row Within = inline "WITHIN" 3 1 1 1 (0x6181 ∷ 0x6600 ∷ 0x6203 ∷ 0x8001 ∷ 0x6203 ∷ 0x6147 ∷ 0x6600 ∷ 0x6203 ∷ 0x8001 ∷ 0x6203 ∷ 0x6B8D ∷ 0x6F03 ∷ [])
 row Cells = inline "CELLS" 1 1 1 0 (0x8001 ∷ 0x6D03 ∷ [])
 row CellPlus = inline "CELL+" 1 1 1 0 (0x8002 ∷ 0x6203 ∷ [])
 row Chars = inline "CHARS" 1 1 0 0 []
@@ -57,6 +62,7 @@ row Base = inline "BASE" 0 1 1 0 (0xA000 ∷ [])
 row Here = inline "HERE" 0 1 1 0 (0xA004 ∷ 0x6C00 ∷ [])
 row Decimal = inline "DECIMAL" 0 0 2 0 (0x800A ∷ 0xA000 ∷ 0x6023 ∷ 0x6103 ∷ [])
 row Depth = inline "DEPTH" 0 1 2 0 (0x6E81 ∷ 0x801F ∷ 0x6303 ∷ [])
+row Hex = inline "HEX" 0 0 2 0 (0x8010 ∷ 0xA000 ∷ 0x6023 ∷ 0x6103 ∷ [])
 row AbortRun = never "ABORT" 0 2 0 (0x8001 ∷ 0xC004 ∷ 0x6023 ∷ [])
 row Quit = never "QUIT" 0 2 0 (0x8003 ∷ 0xC004 ∷ 0x6023 ∷ [])
 -- ---- words on return entries, of class structure
@@ -150,6 +156,7 @@ row Variable = host "VARIABLE"
 row Create = host "CREATE"
 row Does = host "DOES>"
 row ToBody = host ">BODY"
+row CodeCells = host "CODE-CELLS"
 
 -- what the table says of a word's effect, price and weight
 abbrev pub entry_of : Word → WordEntry
@@ -164,4 +171,5 @@ abbrev pub cells_from : ℕ → Word → List ℕ
 cells_from data_start Base = (0x8000 + data_start) ∷ []
 cells_from data_start Here = (0x8000 + (data_start + 4)) ∷ 0x6C00 ∷ []
 cells_from data_start Decimal = 0x800A ∷ (0x8000 + data_start) ∷ 0x6023 ∷ 0x6103 ∷ []
+cells_from data_start Hex = 0x8010 ∷ (0x8000 + data_start) ∷ 0x6023 ∷ 0x6103 ∷ []
 cells_from data_start word = cells_of word

@@ -4,6 +4,7 @@
 #![tactic(auto)]
 
 mod names;
+mod row;
 mod table;
 mod word;
 

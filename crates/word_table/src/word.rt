@@ -1,7 +1,8 @@
 // Words, their classes, and what the table says of each.
 
 /// A word of the source: the 124 words of the Core word set of ANS Forth (X3.215-1994, section 6.1) that a source text may
-/// use, the comment word `\`, and the structures `?DO`, `AGAIN` and `CASE` of the Core extension (section 6.2). `DropTop` is `DROP`, `AbortRun` is `ABORT`, and `Index` and `OuterIndex` are `I` and `J`.
+/// use, 13 words of its Core extension (section 6.2), and `CODE-CELLS`, a word of this compiler. `DropTop` is `DROP`,
+/// `AbortRun` is `ABORT`, and `Index` and `OuterIndex` are `I` and `J`.
 #[derive(Clone, Copy, Debug, PartialEq, Eq)]
 pub enum Word {
     // The data stack (ANS Forth, section 6.1: `DUP DROP SWAP OVER ROT 2DUP 2DROP`).
@@ -12,6 +13,9 @@ pub enum Word {
     Rot,
     TwoDup,
     TwoDrop,
+    // `NIP` and `TUCK` (section 6.2).
+    Nip,
+    Tuck,
     // Arithmetic, logic and comparison on one cell or two (sections 3.2.2.2 and 6.1).
     Plus,
     Minus,
@@ -32,6 +36,10 @@ pub enum Word {
     ZeroEqual,
     ZeroLess,
     SToD,
+    // `0>`, `<>` and `WITHIN` (section 6.2).
+    ZeroGreater,
+    NotEqual,
+    Within,
     // Addresses, which are byte addresses with cells of two bytes (sections 3.3.3.1 and 6.1).
     Cells,
     CellPlus,
@@ -51,6 +59,8 @@ pub enum Word {
     Here,
     Decimal,
     Depth,
+    // `HEX` (section 6.2).
+    Hex,
     // `ABORT` and `QUIT`, which end a run (section 6.1).
     AbortRun,
     Quit,
@@ -154,6 +164,8 @@ pub enum Word {
     Create,
     Does,
     ToBody,
+    // `CODE-CELLS`: how many cells of memory are for code, below data space.
+    CodeCells,
 }
 
 /// How a word is compiled.

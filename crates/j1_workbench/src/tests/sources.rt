@@ -26,9 +26,9 @@ const SOURCES: &str = r#"
 : MAIN 7 7 DEPTH 48 + EMIT ;               |         | 50        |
 : MAIN 16 BASE ! 10 EMIT BASE @ EMIT ;     |         | 10 16     |
 : MAIN 513 HERE ! HERE @ EMIT HERE EMIT ;  |         | 1 128     |
-: MAIN DROP ;                              |         |           | not yet
-: MAIN 1 DROP DROP ;                       |         |           | not yet
-: MAIN 1 + ;                               |         |           | not yet
+: MAIN DROP ;                              |         |           | MAIN: not certified: Data
+: MAIN 1 DROP DROP ;                       |         |           | MAIN: not certified: Data
+: MAIN 1 + ;                               |         |           | MAIN: not certified: Data
                                            |         |           | source token 1: NoMain
 ( a ) \ b                                  |         |           | source token 3: NoMain
 ( abc                                      |         |           | source token 1: OpenComment
@@ -53,24 +53,24 @@ const SOURCES: &str = r#"
 : MAIN 12345678901234567890123456789012 ;  |         |           | source token 3: NameTooLong
 : M234567890123456789012345678901 ;        |         |           | source token 4: NoMain
 : M2345678901234567890123456789012 ;       |         |           | source token 2: NameTooLong
-: MAIN ; : MAIN ;                          |         |           | not yet
+: MAIN ; : MAIN ;                          |         |           |
 : MAIN ; ( 1 ) 65536                       |         |           | not yet
 : MAIN ; ;                                 |         |           | not yet
 X : MAIN ;                                 |         |           | not yet
 65536 : MAIN ;                             |         |           | not yet
 A2345678901234567890123456789012 : MAIN ;  |         |           | source token 1: NameTooLong
-: MAIN 0 IF THEN ;                         |         |           | not yet
-: MAIN 1 >R ;                              |         |           | not yet
+: MAIN 0 IF THEN ;                         |         |           |
+: MAIN 1 >R ;                              |         |           | MAIN: not certified: Shape
 : MAIN ." abc                              |         |           | not yet
-: MAIN 1 . ;                               |         |           | not yet
+: MAIN 1 . ;                               |         | 49 32     |
 : MAIN 1 CONSTANT X ;                      |         |           | not yet
-: MAIN EXIT XYZZY ;                        |         |           | not yet
+: MAIN EXIT XYZZY ;                        |         |           | source token 4: UnknownWord
 : MAIN XYZZY EXIT ;                        |         |           | source token 3: UnknownWord
-: MAIN . 65536 ;                           |         |           | not yet
+: MAIN . 65536 ;                           |         |           | source token 4: NumberRange
 : MAIN 65536 . ;                           |         |           | source token 3: NumberRange
 : MAIN CREATE ( ;                          |         |           | not yet
 : MAIN ( ;                                 |         |           | source token 3: OpenComment
-: MAIN RECURSE                             |         |           | not yet
+: MAIN RECURSE                             |         |           | source token 4: OpenDefinition
 : MAIN DUP                                 |         |           | source token 4: OpenDefinition
 "#;
 
@@ -110,7 +110,7 @@ fn reads_bytes(rt: HostRuntime) -> Result<(), Fail> {
         (b": MAIN \x0b72 ;", b"", b"j1: source token 3: NotText\n"),
         (b": MAIN ( \x80 ) ;", b"", b"j1: source token 3: NotText\n"),
         (b": MAIN IF\0", b"", b"j1: source token 3: NotText\n"),
-        (b": MAIN IF \0", b"", b"j1: not yet\n"),
+        (b": MAIN IF \0", b"", b"j1: source token 4: NotText\n"),
     ];
     for (text, printed, noted) in rows {
         let left = call(rt.alloc(), "run source.fs", text, b"", NEVER)?;
@@ -123,24 +123,24 @@ fn reads_bytes(rt: HostRuntime) -> Result<(), Fail> {
 // Pieces of a source, each with how often it stands, and the line of its note.
 const LIMITS: &str = r#"
  7 33, DROP 33                        |
- 7 34, DROP 34                        | not yet
+ 7 34, DROP 34                        | MAIN: not certified: Data
  7 31                                 |
- 7 32                                 | not yet
+ 7 32                                 | MAIN: not certified: Data
  DEPTH 1, DROP 1, 7 32, DROP 32       |
- DEPTH 1, DROP 1, 7 33, DROP 33       | not yet
- 7 33, DROP 33, ABORT 1, DEPTH 1      | not yet
+ DEPTH 1, DROP 1, 7 33, DROP 33       | MAIN: not certified: Data
+ 7 33, DROP 33, ABORT 1, DEPTH 1      | MAIN: not certified: Data
  7 32, 1+ 1, DROP 32                  |
- 7 33, 1+ 1, DROP 33                  | not yet
+ 7 33, 1+ 1, DROP 33                  | MAIN: not certified: Data
  7 31, CR 1, DROP 31                  |
- 7 32, CR 1, DROP 32                  | not yet
+ 7 32, CR 1, DROP 32                  | MAIN: not certified: Data
  7 32, EMIT 32                        |
- 7 33, EMIT 33                        | not yet
+ 7 33, EMIT 33                        | MAIN: not certified: Data
  0 1, 1+ 1198, DROP 1                 |
  0 1, 1+ 1199, DROP 1                 | source token 1203: CodeFull
  0 1, 1- 2396, DROP 1                 |
  0 1, 1- 2397, DROP 1                 | source token 2402: CodeFull
  0 1, 1- 2398, DROP 1                 | source token 2402: CodeFull
- CHARS 3000                           | not yet
+ CHARS 3000                           | MAIN: not certified: Data
  0 1, CHARS 3000, DROP 1              |
 "#;
 

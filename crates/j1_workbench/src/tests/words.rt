@@ -12,6 +12,8 @@ const TABLE: &str = r#"
 | `ROT` | inline | x y z -- y z x | 3 | 0 | 0 | 1 | 4 | 4 | 6147 6180 6B8D 6180 | moves the third cell to the top |
 | `2DUP` | inline | x y -- x y x y | 2 | 2 | 2 | 0 | 2 | 2 | 6181 6181 | copies the two top cells |
 | `2DROP` | inline | x y -- | 2 | -2 | 0 | 0 | 2 | 2 | 6103 6103 | takes the two top cells away |
+| `NIP` | inline | x y -- y | 2 | -1 | 0 | 0 | 1 | 1 | 6003 | takes the second cell away |
+| `TUCK` | inline | x y -- y x y | 2 | 1 | 1 | 0 | 2 | 2 | 6180 6181 | copies the top cell below the second |
 | `+` | inline | x y -- z | 2 | -1 | 0 | 0 | 1 | 1 | 6203 | the sum |
 | `-` | inline | x y -- z | 2 | -1 | 0 | 0 | 4 | 4 | 6600 6203 8001 6203 | x less y |
 | `NEGATE` | inline | n -- -n | 1 | 0 | 1 | 0 | 3 | 3 | 6600 8001 6203 | 0 less n |
@@ -25,11 +27,14 @@ const TABLE: &str = r#"
 | `LSHIFT` | inline | x u -- y | 2 | -1 | 0 | 0 | 1 | 1 | 6D03 | shifts left by the low four bits of u |
 | `RSHIFT` | inline | x u -- y | 2 | -1 | 0 | 0 | 1 | 1 | 6903 | shifts right by the low four bits of u, zeros in |
 | `=` | inline | x y -- flag | 2 | -1 | 0 | 0 | 1 | 1 | 6703 | whether they are equal |
+| `<>` | inline | x y -- flag | 2 | -1 | 0 | 0 | 2 | 2 | 6703 6600 | whether they differ |
 | `<` | inline | n m -- flag | 2 | -1 | 0 | 0 | 1 | 1 | 6803 | whether n is less than m, signed |
 | `>` | inline | n m -- flag | 2 | -1 | 0 | 0 | 2 | 2 | 6180 6803 | whether n is greater than m, signed |
 | `U<` | inline | u v -- flag | 2 | -1 | 0 | 0 | 1 | 1 | 6F03 | whether u is less than v, unsigned |
 | `0=` | inline | x -- flag | 1 | 0 | 1 | 0 | 2 | 2 | 8000 6703 | whether x is 0 |
 | `0<` | inline | n -- flag | 1 | 0 | 1 | 0 | 2 | 2 | 8000 6803 | whether n is negative |
+| `0>` | inline | n -- flag | 1 | 0 | 1 | 0 | 3 | 3 | 8000 6180 6803 | whether n is greater than 0, signed |
+| `WITHIN` | inline | u a b -- flag | 3 | -2 | 1 | 1 | 12 | 12 | 6181 6600 6203 8001 6203 6147 6600 6203 8001 6203 6B8D 6F03 | whether u is one of the numbers from a up to, and without, b, counted round past 65535 |
 | `S>D` | inline | n -- d | 1 | 1 | 2 | 0 | 3 | 3 | 6081 8000 6803 | widens a signed cell to a double cell |
 | `CELLS` | inline | n -- m | 1 | 0 | 1 | 0 | 2 | 2 | 8001 6D03 | the bytes of n cells: twice n |
 | `CELL+` | inline | a -- b | 1 | 0 | 1 | 0 | 2 | 2 | 8002 6203 | the address one cell on: a + 2 |
@@ -43,9 +48,10 @@ const TABLE: &str = r#"
 | `BL` | inline | -- c | 0 | 1 | 1 | 0 | 1 | 1 | 8020 | the space character, 32 |
 | `CR` | inline | -- | 0 | 0 | 2 | 0 | 4 | 4 | 800A C000 6023 6103 | prints a line feed, byte 10 |
 | `SPACE` | inline | -- | 0 | 0 | 2 | 0 | 4 | 4 | 8020 C000 6023 6103 | prints a space, byte 32 |
-| `BASE` | inline | -- a | 0 | 1 | 1 | 0 | 1 | 1 | A000 | the address of the number base, 8192 |
-| `HERE` | inline | -- a | 0 | 1 | 1 | 0 | 2 | 2 | A004 6C00 | the next free address of data space: the cell at 8196 |
+| `BASE` | inline | -- a | 0 | 1 | 1 | 0 | 1 | 1 | A000 | the address of the number base, where data space begins |
+| `HERE` | inline | -- a | 0 | 1 | 1 | 0 | 2 | 2 | A004 6C00 | the next free address of data space: the cell 4 bytes after the number base |
 | `DECIMAL` | inline | -- | 0 | 0 | 2 | 0 | 4 | 4 | 800A A000 6023 6103 | makes the number base ten |
+| `HEX` | inline | -- | 0 | 0 | 2 | 0 | 4 | 4 | 8010 A000 6023 6103 | makes the number base sixteen |
 | `DEPTH` | inline | -- u | 0 | 1 | 2 | 0 | 3 | 3 | 6E81 801F 6303 | the number of data cells before it |
 | `ABORT` | inline | -- | 0 | - | 2 | 0 | 3 | 3 | 8001 C004 6023 | ends the run as Halted(1) |
 | `QUIT` | inline | -- | 0 | - | 2 | 0 | 3 | 3 | 8003 C004 6023 | ends the run as Halted(3) |
@@ -67,14 +73,14 @@ const TABLE: &str = r#"
 | `ELSE` | structure | -- | 0 | 0 | 0 | 0 | 1 | 1 | | ends the true branch of an `IF` and begins the false one |
 | `REPEAT` | structure | -- | 0 | 0 | 0 | 0 | 1 | 1 | | goes back to `BEGIN` |
 | `THEN` | structure | -- | 0 | 0 | 0 | 0 | 0 | 0 | | ends an `IF` |
-| `BEGIN` | structure | -- | 0 | 0 | 0 | 0 | 0 | 0 | | begins a loop that `UNTIL` or `REPEAT` ends |
+| `BEGIN` | structure | -- | 0 | 0 | 0 | 0 | 0 | 0 | | begins a loop that `UNTIL`, `REPEAT` or `AGAIN` ends |
 | `DO` | structure | limit first -- | 2 | -2 | 1 | 0 | 8 | 8 | | begins a loop from the first index toward the limit |
 | `LOOP` | structure | -- | 0 | 0 | 2 | 0 | 12 | 12 | | adds 1 to the index and goes on unless it then is the limit |
 | `+LOOP` | structure | n -- | 1 | -1 | 4 | 0 | 24 | 24 | | adds n to the index and goes on unless it crosses the line between limit - 1 and limit |
 | `?DO` | structure | limit start -- | 2 | -2 | 2 | 0 | 12 | 15 | | begins a loop where the two differ, else goes on behind it |
 | `AGAIN` | structure | -- | 0 | 0 | 0 | 0 | 1 | 1 | | goes back to `BEGIN` |
 | `CASE` | structure | -- | 0 | 0 | 0 | 0 | 0 | 0 | | begins a case |
-| `OF` | structure | x y -- | 2 | 0 | 1 | 0 | 4 | 4 | | takes y, and x too where they are equal: then the body of the arm follows, else what stands behind its `ENDOF` |
+| `OF` | structure | x y -- x? | 2 | 0 | 1 | 0 | 4 | 4 | | takes y, and x too where they are equal: then the body of the arm follows, else what stands behind its `ENDOF` |
 | `ENDOF` | structure | -- | 0 | 0 | 0 | 0 | 1 | 1 | | ends the body of an arm, and goes on behind `ENDCASE` |
 | `ENDCASE` | structure | x -- | 1 | -1 | 0 | 0 | 1 | 1 | | ends a case |
 | `LEAVE` | structure | -- | 0 | 0 | 1 | 0 | 5 | 5 | | leaves the innermost `DO` at once |
@@ -136,6 +142,7 @@ const TABLE: &str = r#"
 | `CREATE` | host | -- | 0 | 0 | 0 | 0 | 0 | 0 | | names the next free address |
 | `DOES>` | host | -- | 0 | 0 | 0 | 0 | 0 | 0 | | begins what the words of a defining word do |
 | `>BODY` | host | t -- a | 0 | 0 | 0 | 0 | 0 | 0 | | the data address of a word that `CREATE` made |
+| `CODE-CELLS` | host | n -- | 0 | 0 | 0 | 0 | 0 | 0 | | leaves n cells for code: data space begins at byte address 2n |
 "#;
 
 // The Core word set (ANS Forth, section 6.1).
@@ -223,13 +230,14 @@ fn cells_named(side: &str) -> i8 {
     cells
 }
 
-// Whether need and exit are what a stack effect shows. It shows no choice and no end, and is the host's where the class is.
+// Whether need and exit are what a stack effect shows. Of a choice, with `?`, and of an end it shows none, and it is the host's where the
+// class is.
 fn shows(stack: &str, entry: &WordEntry) -> bool {
     let (before, after) = stack.split_once("--").unwrap_or(("", ""));
     let takes = cells_named(before);
     let change = cells_named(after).wrapping_sub(takes);
     let is_shown = match entry.exit {
-        Some((low, high)) => low != high || low == change,
+        Some((low, high)) => low != high || low == change || after.ends_with("? "),
         None => true,
     };
     entry.class == Class::Host || (i16::from(entry.need) == i16::from(takes) && is_shown)
@@ -249,7 +257,7 @@ fn agrees_with_the_tables(rt: HostRuntime) -> Result<(), Fail> {
         assert!(rt; !words.as_slice().contains(&word), "{line}");
         words.push(word)?;
     }
-    assert_eq!(rt; words.len(), 131);
+    assert_eq!(rt; words.len(), 138);
     Ok(())
 }
 
@@ -265,7 +273,7 @@ fn names_the_core_words(rt: HostRuntime) -> Result<(), Fail> {
     }
     let wanted = ">IN ENVIRONMENT? EVALUATE FIND IMMEDIATE POSTPONE SOURCE STATE WORD ";
     assert_eq!(rt; others.as_str(), wanted);
-    for name in "NIP TUCK HEX MAIN DUP2".split_whitespace() {
+    for name in "PICK ROLL MAIN DUP2".split_whitespace() {
         assert!(rt; word_of(name).is_none(), "{name}");
     }
     Ok(())

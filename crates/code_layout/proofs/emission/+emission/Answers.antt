@@ -1,9 +1,10 @@
-use Rattle.std.proofs.Common.{◌≡◌, ℕ, ◌+◌, ◌≤◌, true, false, ◌++◌, length, slice_index, OnOk, refl, sym, ap, subst, arith, rules}
+use Rattle.std.proofs.Common.{◌≡◌, ◌+◌, ◌≤◌, true, false, ◌++◌, length, OnOk, refl, sym, ap, subst, arith, rules}
 use Rattle.std.proofs.lemmas.Result.{on_ok_weaker}
 use Rattle.forth_program.specs.Tree.{While, Again, QDo, Case}
 use Rattle.forth_program.specs.Form.{everywhere, inside, in_arms}
 use Rattle.forth_program.specs.ItemTrees.{node_of, tree_of, arms_of, arms_tree}
-use Rattle.code_layout.specs.Built.{is_laid_out, node_tokens, tokens, arms_tokens}
+use Rattle.forth_program.specs.SourceTokens.{node_tokens, tokens_of, arms_tokens}
+use Rattle.code_layout.specs.Built.{is_laid_out}
 use Rattle.code_layout.specs.Places.{place_by, word_count, definition_count}
 use Rattle.code_layout.specs.Layout.{q_do_cells, node_size, size, arms_size, out_place, node_cells, arms_cells}
 use Rattle.code_layout.proofs.Emitting.{cell_more, cells_more, of_more, arms_more, items_more, else_more, if_added, while_added, arm_added, case_added, q_do_added, one_added, item_fits, one_arm_added, arm_fits}
@@ -63,7 +64,7 @@ pub add_item-add_while-requires : goal.add_item-add_while-requires
 add_item-add_while-requires t c =
     let room : length c.args.code.now.items + node_size c.args.tail c.args.reached (While (tree_of c.in-While.test) (tree_of c.in-While.body)) ≤ 8000 =
     subst (λ node. length c.args.code.now.items + node_size c.args.tail c.args.reached node ≤ 8000) c.while_has_parts.ensures c.requires.room in
-    let fewer : node_tokens (node_of c.args.item.now) ≡ tokens (tree_of c.in-While.test) + tokens (tree_of c.in-While.body) + 3 = ap node_tokens c.while_has_parts.ensures in
+    let fewer : node_tokens (node_of c.args.item.now) ≡ tokens_of (tree_of c.in-While.test) + tokens_of (tree_of c.in-While.body) + 3 = ap node_tokens c.while_has_parts.ensures in
     let parts = both (everywhere (is_laid_out true (word_count c.args.places.now) (definition_count c.args.places.now)) (tree_of c.in-While.test)) (everywhere (is_laid_out true (word_count c.args.places.now) (definition_count c.args.places.now)) (tree_of c.in-While.body))
     (subst (λ node. inside (is_laid_out true (word_count c.args.places.now) (definition_count c.args.places.now)) node ≡ true) c.while_has_parts.ensures c.requires.parts) in
     let test = parts.0 in
@@ -74,7 +75,7 @@ pub add_item-add_again-requires : goal.add_item-add_again-requires
 add_item-add_again-requires t c =
     let room : length c.args.code.now.items + node_size c.args.tail c.args.reached (Again (tree_of c.in-Again.body)) ≤ 8000 =
     subst (λ node. length c.args.code.now.items + node_size c.args.tail c.args.reached node ≤ 8000) c.again_has_parts.ensures c.requires.room in
-    let fewer : node_tokens (node_of c.args.item.now) ≡ tokens (tree_of c.in-Again.body) + 2 = ap node_tokens c.again_has_parts.ensures in
+    let fewer : node_tokens (node_of c.args.item.now) ≡ tokens_of (tree_of c.in-Again.body) + 2 = ap node_tokens c.again_has_parts.ensures in
     let body = subst (λ node. inside (is_laid_out true (word_count c.args.places.now) (definition_count c.args.places.now)) node ≡ true) c.again_has_parts.ensures c.requires.parts in
     search rules
 
@@ -82,7 +83,7 @@ pub add_item-add_q_do-requires : goal.add_item-add_q_do-requires
 add_item-add_q_do-requires t c =
     let room : length c.args.code.now.items + node_size c.args.tail c.args.reached (QDo (tree_of c.in-QDo.body) c.in-QDo.plus) ≤ 8000 =
     subst (λ node. length c.args.code.now.items + node_size c.args.tail c.args.reached node ≤ 8000) c.q_do_has_parts.ensures c.requires.room in
-    let fewer : node_tokens (node_of c.args.item.now) ≡ tokens (tree_of c.in-QDo.body) + 2 = ap node_tokens c.q_do_has_parts.ensures in
+    let fewer : node_tokens (node_of c.args.item.now) ≡ tokens_of (tree_of c.in-QDo.body) + 2 = ap node_tokens c.q_do_has_parts.ensures in
     let body = subst (λ node. inside (is_laid_out true (word_count c.args.places.now) (definition_count c.args.places.now)) node ≡ true) c.q_do_has_parts.ensures c.requires.parts in
     search rules
 
@@ -91,7 +92,7 @@ add_item-add_case-requires t c =
     let arms = arms_tree (arms_of c.in-Case.arms) in
     let room : length c.args.code.now.items + node_size c.args.tail c.args.reached (Case (arms_tree (arms_of c.in-Case.arms)) (tree_of c.in-Case.rest)) ≤ 8000 =
     subst (λ node. length c.args.code.now.items + node_size c.args.tail c.args.reached node ≤ 8000) c.case_has_parts.ensures c.requires.room in
-    let fewer : node_tokens (node_of c.args.item.now) ≡ arms_tokens (arms_tree (arms_of c.in-Case.arms)) + tokens (tree_of c.in-Case.rest) + 2 = ap node_tokens c.case_has_parts.ensures in
+    let fewer : node_tokens (node_of c.args.item.now) ≡ arms_tokens (arms_tree (arms_of c.in-Case.arms)) + tokens_of (tree_of c.in-Case.rest) + 2 = ap node_tokens c.case_has_parts.ensures in
     let parts = both (in_arms (is_laid_out true (word_count c.args.places.now) (definition_count c.args.places.now)) (arms_tree (arms_of c.in-Case.arms))) (everywhere (is_laid_out true (word_count c.args.places.now) (definition_count c.args.places.now)) (tree_of c.in-Case.rest))
     (subst (λ node. inside (is_laid_out true (word_count c.args.places.now) (definition_count c.args.places.now)) node ≡ true) c.case_has_parts.ensures c.requires.parts) in
     let first = parts.0 in
@@ -166,14 +167,14 @@ add_case-returns t c =
     let same = ap (λ arms. arms_size c.args.tail (arms_tree arms)) c.list-list.ensures in
     let trees = ap arms_tree c.list-list.ensures in
     let added : c.add_arms.new.code.items ≡ code ++ arms_cells c.args.data_start place c.args.out_at (length code) c.args.tail (length code + arms_size c.args.tail arms + size false true rest + 1) arms = grind arith in
-    on_ok_weaker c.add_end_case.result
-    (case_added c.args.data_start place c.args.out_at (length code) c.args.tail arms rest code c.add_arms.new.code.items c.add_items.new.code.items c.add_end_case.new.code.items refl (omega (arith, one, same)) added c.in_ok-add_items.ensures) c.add_end_case.ensures
+    on_ok_weaker c.add_drop.result
+    (case_added c.args.data_start place c.args.out_at (length code) c.args.tail arms rest code c.add_arms.new.code.items c.add_items.new.code.items c.add_drop.new.code.items refl (omega (arith, one, same)) added c.in_ok-add_items.ensures) c.add_drop.ensures
 
 pub add_q_do-returns : goal.add_q_do-returns
 add_q_do-returns t c = λ out_at.
     let place = place_by c.args.places.now in
     let code = c.args.code.now.items in
     let body = tree_of c.args.body.now in
-    let one = cells_more _ _ _ c.in_ok-add_skip.ensures in
+    let one : length c.add_skip.new.code.items ≡ length code + 7 = cells_more _ _ _ c.in_ok-add_skip.ensures in
     let added : c.add_skip.new.code.items ≡ code ++ q_do_cells (length code + 7) (out_place (length code + 7) body c.args.plus + 4) = grind arith in
     on_ok_weaker c.add_do_loop.result (q_do_added c.args.data_start place out_at (length code) body c.args.plus code c.add_skip.new.code.items c.add_do_loop.new.code.items one added) (c.add_do_loop.ensures out_at)

@@ -6,10 +6,10 @@ use Rattle.control_flow.proofs.source.read_program.Given as goal
 abbrev pub invariant-definitions : goal.invariant-definitions
 invariant-definitions l = record {
   same : (n : ℕ) → length l.fn.bytes < n → source_at n (started l.fn.bytes) ≡ source_at (n - length l.source.bodies.items) (source_of l.source);
-  room : length l.source.bodies.items + length l.source.compiler.reader.rest ≤ length l.fn.bytes;
-  ready : IsReady l.source.compiler;
+  room : length l.source.bodies.items + length l.source.parser.reader.rest ≤ length l.fn.bytes;
+  ready : IsReady l.source.parser;
   counted : IsCounted l.source;
 }
 
 abbrev pub decreases-definitions : goal.decreases-definitions
-decreases-definitions l = length l.source.compiler.reader.rest
+decreases-definitions l = length l.source.parser.reader.rest

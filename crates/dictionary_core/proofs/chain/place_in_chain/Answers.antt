@@ -35,7 +35,7 @@ loop-at-smaller g c =
 pub loop-at-preserved : goal.loop-at-preserved
 loop-at-preserved g c =
     let within : c.in-Some.place < length c.args.entries.now = omega (arith, walk_within _ _ _ _ _ _ c.loop-at.invariant _ c.in-Some.is, c.requires.as_many) in
-    walk_goes_on _ _ _ _ _ _ c.loop-at.invariant c.in-Some.place c.in-Some.is _ _ _ (c.requires.linked c.in-Some.place _ (slice_get-get_or _ _ _ within)) (sym c.same.ensures.value ∙ c.if-same.false)
+    walk_goes_on _ _ _ _ _ _ c.loop-at.invariant c.in-Some.place c.in-Some.is _ _ _ (c.requires.linked c.in-Some.place _ (slice_get-get_or _ _ _ within)) (sym c.same.ensures.value ∙ c.if-same.false) c.same.ensures.risen
     (omega (arith, ap (λ (l : NameList). l.looks) c.same.ensures.looked, min-le_left (c.loop-at.names.looks + 1) 18446744073709551615)) (ap (λ (l : NameList). l.names) c.same.ensures.looked)
 
 pub returns-clause-place : goal.returns-clause-place

@@ -1,21 +1,27 @@
-use Rattle.std.proofs.Common.{[], ◌≡◌, Some, map, string_bytes, rules, subst, sym, ap, ◌∙◌}
-use Rattle.std.specs.Prelude.{IfSome}
-use Rattle.j1_workbench.specs.Words.{request_of, Run, steps_allowed}
-use Rattle.j1_workbench.specs.Answers.{RunLeaves, text_in}
-use Rattle.code_layout.specs.Layout.{laid_out}
-use Rattle.j1_workbench.proofs.Files.{asked}
+use Rattle.std.proofs.Common.{rules, refl}
+use Rattle.j1_workbench.specs.Words.{Build, Execute, ListImage, Assemble, Evaluate, Make}
+use Rattle.j1_workbench.specs.Surroundings.{stream}
+use Rattle.j1_workbench.proofs.Commands.{does_certify, does_not_yet}
 use Rattle.j1_workbench.proofs.answering.answer.Goals as goal
 
-pub returns-in-Some-Run-clause-run : goal.returns-in-Some-Run-clause-run
-returns-in-Some-Run-clause-run g c = λ source text steps program asks told built.
-    let given : request_of (map string_bytes c.args.words.now) ≡ Some (Run c.in-Some-Run.source.now c.in-Some-Run.steps) = search rules in
-    let same = asked _ c.in-Some-Run.source.now source c.in-Some-Run.steps steps given asks in
-    let ran = c.run_source.ensures.run text program (subst (λ s. text_in (g.F.Folder.files c.args.files.now) s ≡ Some text) (sym same.0) told) built in
-    subst (λ n. IfSome (g.C.Source.left c.args.console.now) (λ input. RunLeaves (laid_out [] program) input n c.run_source.result (g.C.Source.left c.run_source.new.console) (g.O.Sink.held c.args.out.now) (g.O.Sink.held c.run_source.new.out)))
-    (c.steps_allowed.ensures ∙ ap steps_allowed same.1) ran
+pub returns-in-Some-Certify : goal.returns-in-Some-Certify
+returns-in-Some-Certify g c =
+    does_certify _ c.in-Some-Certify.source.now _ _ _ _ (search rules) (c.certify.ensures (stream (g.C.Source.left c.args.console.now) (g.C.Source.faults c.args.console.now)))
 
-pub returns-in-Some-Run-clause-other_text : goal.returns-in-Some-Run-clause-other_text
-returns-in-Some-Run-clause-other_text g c = λ source text steps status asks told is.
-    let given : request_of (map string_bytes c.args.words.now) ≡ Some (Run c.in-Some-Run.source.now c.in-Some-Run.steps) = search rules in
-    let same = asked _ c.in-Some-Run.source.now source c.in-Some-Run.steps steps given asks in
-    c.run_source.ensures.other_text text status (subst (λ s. text_in (g.F.Folder.files c.args.files.now) s ≡ Some text) (sym same.0) told) is
+pub returns-in-Some-Build : goal.returns-in-Some-Build
+returns-in-Some-Build g c = does_not_yet _ (Build c.in-Some-Build.field-0-0.now c.in-Some-Build.field-0-1.now) _ c.answered-in-Some-Build.result (search rules) refl c.answered-in-Some-Build.ensures
+
+pub returns-in-Some-Execute : goal.returns-in-Some-Execute
+returns-in-Some-Execute g c = does_not_yet _ (Execute c.in-Some-Execute.field-0-0.now c.in-Some-Execute.field-0-1) _ c.answered-in-Some-Execute.result (search rules) refl c.answered-in-Some-Execute.ensures
+
+pub returns-in-Some-ListImage : goal.returns-in-Some-ListImage
+returns-in-Some-ListImage g c = does_not_yet _ (ListImage c.in-Some-ListImage.field-0-0.now) _ c.answered-in-Some-ListImage.result (search rules) refl c.answered-in-Some-ListImage.ensures
+
+pub returns-in-Some-Assemble : goal.returns-in-Some-Assemble
+returns-in-Some-Assemble g c = does_not_yet _ (Assemble c.in-Some-Assemble.field-0-0.now c.in-Some-Assemble.field-0-1.now) _ c.answered-in-Some-Assemble.result (search rules) refl c.answered-in-Some-Assemble.ensures
+
+pub returns-in-Some-Evaluate : goal.returns-in-Some-Evaluate
+returns-in-Some-Evaluate g c = does_not_yet _ (Evaluate c.in-Some-Evaluate.field-0-0.now c.in-Some-Evaluate.field-0-1) _ c.answered-in-Some-Evaluate.result (search rules) refl c.answered-in-Some-Evaluate.ensures
+
+pub returns-in-Some-Make : goal.returns-in-Some-Make
+returns-in-Some-Make g c = does_not_yet _ (Make c.in-Some-Make.field-0-0 c.in-Some-Make.field-0-1) _ c.answered-in-Some-Make.result (search rules) refl c.answered-in-Some-Make.ensures

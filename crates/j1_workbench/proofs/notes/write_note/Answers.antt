@@ -1,26 +1,26 @@
 use Rattle.std.proofs.Common.{map, string_bytes, [], ◌∷◌, refl, ap, ◌∙◌, rules}
 use Rattle.std.specs.Prelude.{codes}
 use Rattle.j1_workbench.specs.declared.status.Status.TheVariants.{BadWords, StepsUsed, InputEnded, Outside, WriteFault, TooLarge}
-use Rattle.j1_workbench.specs.Notes.{line}
+use Rattle.j1_workbench.specs.Notes.{line, named}
 use Rattle.j1_workbench.proofs.Appending.{noted}
 use Rattle.j1_workbench.proofs.notes.write_note.Goals as goal
 
 pub returns-in-BadWords-clause-bytes : goal.returns-in-BadWords-clause-bytes
-returns-in-BadWords-clause-bytes g c = noted _ _ _ (map string_bytes c.args.words.now) c.args.status BadWords _ c.in-BadWords.is refl c.write_line.ensures.bytes
+returns-in-BadWords-clause-bytes g c = noted _ _ _ (map string_bytes c.args.words.now) (named c.args.name.now) c.args.status BadWords _ c.in-BadWords.is refl c.write_line.ensures.bytes
 
 pub returns-in-StepsUsed-clause-bytes : goal.returns-in-StepsUsed-clause-bytes
-returns-in-StepsUsed-clause-bytes g c = noted _ _ _ (map string_bytes c.args.words.now) c.args.status StepsUsed _ c.in-StepsUsed.is refl c.write_line-in-StepsUsed.ensures.bytes
+returns-in-StepsUsed-clause-bytes g c = noted _ _ _ (map string_bytes c.args.words.now) (named c.args.name.now) c.args.status StepsUsed _ c.in-StepsUsed.is refl c.write_line-in-StepsUsed.ensures.bytes
 
 pub returns-in-InputEnded-clause-bytes : goal.returns-in-InputEnded-clause-bytes
-returns-in-InputEnded-clause-bytes g c = noted _ _ _ (map string_bytes c.args.words.now) c.args.status InputEnded _ c.in-InputEnded.is refl c.write_line-in-InputEnded.ensures.bytes
+returns-in-InputEnded-clause-bytes g c = noted _ _ _ (map string_bytes c.args.words.now) (named c.args.name.now) c.args.status InputEnded _ c.in-InputEnded.is refl c.write_line-in-InputEnded.ensures.bytes
 
 pub returns-in-Outside-clause-bytes : goal.returns-in-Outside-clause-bytes
-returns-in-Outside-clause-bytes g c = noted _ _ _ (map string_bytes c.args.words.now) c.args.status (Outside c.in-Outside.address) _ c.in-Outside.is (search rules) c.write_line-in-Outside.ensures.bytes
+returns-in-Outside-clause-bytes g c = noted _ _ _ (map string_bytes c.args.words.now) (named c.args.name.now) c.args.status (Outside c.in-Outside.address) _ c.in-Outside.is (search rules) c.write_line-in-Outside.ensures.bytes
 
 pub returns-in-WriteFault-clause-bytes : goal.returns-in-WriteFault-clause-bytes
-returns-in-WriteFault-clause-bytes g c = noted _ _ _ (map string_bytes c.args.words.now) c.args.status WriteFault _ c.in-WriteFault.is refl c.write_line-in-WriteFault.ensures.bytes
+returns-in-WriteFault-clause-bytes g c = noted _ _ _ (map string_bytes c.args.words.now) (named c.args.name.now) c.args.status WriteFault _ c.in-WriteFault.is refl c.write_line-in-WriteFault.ensures.bytes
 
 pub returns-in-TooLarge-clause-bytes : goal.returns-in-TooLarge-clause-bytes
 returns-in-TooLarge-clause-bytes g c =
-    noted _ _ _ (map string_bytes c.args.words.now) c.args.status TooLarge _ c.in-TooLarge.is
+    noted _ _ _ (map string_bytes c.args.words.now) (named c.args.name.now) c.args.status TooLarge _ c.in-TooLarge.is
     (ap (λ name. line (name ∷ codes ": too large" ∷ [])) (c.as_bytes-in-TooLarge.ensures.value ∙ c.file_named-in-TooLarge.ensures)) c.write_line-in-TooLarge.ensures.bytes

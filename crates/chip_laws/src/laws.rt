@@ -1,0 +1,23 @@
+// What the chip does on the image of a certified program.
+ghost use Rattle.chip_laws.specs.Certified.{CertifiedChipsAgree, CertifiedChipsKeepTight};
+
+use code_layout::chips_agree;
+use depth_certifier::certified_runs_fit;
+
+/// On the chip a built program with a valid certificate prints what its source means, both ways and within stated steps, ends
+/// alike, and wraps no stack.
+pub fn certified_chips_agree()
+    ensures { CertifiedChipsAgree }
+{
+    chips_agree();
+    certified_runs_fit();
+}
+
+/// Along the run the data counter is at most the greater of the peak of MAIN and, where MAIN has an exit, its high end plus 2, and
+/// the return counter at most the back of MAIN plus 1.
+pub fn certified_chips_keep_tight()
+    ensures { CertifiedChipsKeepTight }
+{
+    chips_agree();
+    certified_runs_fit();
+}

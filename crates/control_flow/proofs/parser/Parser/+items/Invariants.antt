@@ -1,0 +1,55 @@
+use Rattle.std.proofs.Common.{◌≡◌, ℕ, ◌+◌, ◌-◌, ◌*◌, ◌<◌, ◌≤◌, length}
+use Rattle.forth_program.specs.ItemTrees.{items_of, arms_of}
+use Rattle.control_flow.specs.Items.{arms_at, items_at}
+use Rattle.control_flow.specs.Answers.{place_of, IsReady}
+use Rattle.control_flow.proofs.Growing.{behind}
+use Rattle.control_flow.proofs.ArmLists.{behind_arms}
+use Rattle.control_flow.proofs.parser.Parser.+items.Given as goal
+
+abbrev pub decreases-items : goal.decreases-items
+decreases-items l = 5 * length l.self.now.reader.rest + 1
+
+abbrev pub decreases-if_item : goal.decreases-if_item
+decreases-if_item l = 5 * length l.self.now.reader.rest + 2
+
+abbrev pub decreases-begin_item : goal.decreases-begin_item
+decreases-begin_item l = 5 * length l.self.now.reader.rest + 2
+
+abbrev pub decreases-do_item : goal.decreases-do_item
+decreases-do_item l = 5 * length l.self.now.reader.rest + 2
+
+abbrev pub decreases-q_do_item : goal.decreases-q_do_item
+decreases-q_do_item l = 5 * length l.self.now.reader.rest + 2
+
+abbrev pub decreases-arm_body : goal.decreases-arm_body
+decreases-arm_body l = 5 * length l.self.now.reader.rest + 2
+
+abbrev pub decreases-case_item : goal.decreases-case_item
+decreases-case_item l = 5 * length l.self.now.reader.rest + 2
+
+abbrev pub decreases-structure : goal.decreases-structure
+decreases-structure l = 5 * length l.self.now.reader.rest + 3
+
+abbrev pub decreases-item : goal.decreases-item
+decreases-item l = 5 * length l.self.now.reader.rest + 4
+
+abbrev pub invariant-items-tokens : goal.invariant-items-tokens
+invariant-items-tokens l = record {
+  same : (n : ℕ) → length l.fn.self.reader.rest < n → items_at n (place_of l.fn.self) ≡ behind (items_of l.done) (items_at (n - length (items_of l.done)) (place_of l.self));
+  room : length (items_of l.done) + length l.self.reader.rest ≤ length l.fn.self.reader.rest;
+  ready : IsReady l.self;
+}
+
+abbrev pub decreases-items-tokens : goal.decreases-items-tokens
+decreases-items-tokens l = length l.self.reader.rest
+
+abbrev pub invariant-case_item-arms : goal.invariant-case_item-arms
+invariant-case_item-arms l = record {
+  same : (n m : ℕ) → length l.fn.self.reader.rest < n → length l.fn.self.reader.rest < m →
+      arms_at (items_at n) m (place_of l.fn.self) ≡ behind_arms (arms_of l.arms) (arms_at (items_at n) (m - length (arms_of l.arms)) (place_of l.self));
+  room : length (arms_of l.arms) + length l.self.reader.rest ≤ length l.fn.self.reader.rest;
+  ready : IsReady l.self;
+}
+
+abbrev pub decreases-case_item-arms : goal.decreases-case_item-arms
+decreases-case_item-arms l = length l.self.reader.rest

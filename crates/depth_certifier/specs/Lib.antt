@@ -1,0 +1,15 @@
+pub mod Place
+pub mod Entries
+pub mod Views
+pub mod Walks
+pub mod Counting
+pub mod Effects
+pub mod Certificate
+pub mod Soundness
+pub mod Walk
+pub mod Rounds
+pub mod Checking
+pub mod Bodies
+pub mod Notes
+pub mod Settling
+pub mod CertificateText

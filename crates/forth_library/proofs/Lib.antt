@@ -1,0 +1,4 @@
+pub mod Standing
+pub mod Meaning
+pub mod Reading
+pub mod Certified

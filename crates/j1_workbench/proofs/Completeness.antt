@@ -1,0 +1,214 @@
+-- Each source has its one answer, where nothing outside fails.
+use Rattle.std.proofs.Common.{◌≡◌, ◌⊎◌, inl, inr, ℕ, ◌<◌, ◌≤◌, List, [], length, true, false, nat_le, refl, sym, ap, ◌∙◌, subst, arith}
+use Rattle.std.proofs.lemmas.Bool.Decides.{nat_tests}
+use Rattle.std.specs.Prelude.{Option, Some, None, slice_index_or}
+use Rattle.std.specs.List.{All}
+use Rattle.outside_io.specs.Causes.{Rose}
+use Rattle.outside_io.specs.Files.{Files, Lacks}
+use Rattle.forth_program.specs.Program.{SourceProgram}
+use Rattle.control_flow.specs.Outcome.{Outcome, Fine, Refused, NotBuilt, Endless}
+use Rattle.control_flow.specs.SourceText.{program_of_text}
+use Rattle.control_flow.specs.SourceLaw.{EachIsJudged, EachProgramIsSource}
+use Rattle.control_flow.specs.declared.refusal.SourceCause.{SourceCause}
+use Rattle.control_flow.specs.declared.refusal.SourceRefusal.{SourceRefusal}
+use Rattle.forth_program.specs.declared.item.DefId.{DefId}
+use Rattle.depth_certifier.specs.declared.effect.CertCause.{CertCause}
+use Rattle.depth_certifier.specs.Certificate.{Cert, IsValid}
+use Rattle.depth_certifier.specs.Rounds.{Refusal, Refuses, ProperToken, RoundsEnd, RoundsFindTheLeast, RefusedHaveNone, OneRefusal}
+use Rattle.j1_workbench.specs.declared.status.Status.{Status}
+use Rattle.j1_workbench.specs.declared.status.Status.TheVariants.{Done, BadWords, Missing, SourceRefused, NotCertified, StepsUsed, InputEnded, Outside, Halted, ReadFault, WriteFault, OutOfMemory, TooLarge, NotYet}
+use Rattle.j1_workbench.specs.Surroundings.{Stream, FolderState, Surroundings}
+use Rattle.j1_workbench.specs.Sources.{Holds, IsCertified, IsUncertified, IsRefusedText, IsRefusedSource}
+use Rattle.j1_workbench.specs.Running.{IsRunAnswer, Runs}
+use Rattle.j1_workbench.specs.Certifying.{Writes, Certifies}
+use Rattle.j1_workbench.specs.Completeness.{Tells, FailsNowhere, IsComplete, IsJudged, AnswersAreComplete}
+
+-- ---- a text has one outcome
+
+same_program : (text : List ℕ) (p q : SourceProgram) → program_of_text text ≡ Fine p → program_of_text text ≡ Fine q → p ≡ q
+same_program text p q e f = cc
+
+clash : {A : Type 0} (text : List ℕ) → 65536 < length text → length text ≤ 65536 → A
+clash text long short = absurd (omega arith)
+
+-- the four kinds of a refused text
+by_kind : (P : Status → Type 0) (text : List ℕ) (status : Status) (name : List ℕ) → IsRefusedText text status name →
+    (65536 < length text → P TooLarge) →
+    ((refusal : SourceRefusal) → length text ≤ 65536 → program_of_text text ≡ Refused refusal.token refusal.cause → P (SourceRefused refusal)) →
+    ((id : DefId) (cause : CertCause) → IsUncertified text id.0 cause name → P (NotCertified id cause)) →
+    (length text ≤ 65536 → program_of_text text ≡ NotBuilt → P NotYet) → P status
+by_kind P text TooLarge name refused long faulty uncertified unbuilt = long refused
+by_kind P text (SourceRefused refusal) name refused long faulty uncertified unbuilt = faulty refusal refused.0 refused.1
+by_kind P text (NotCertified id cause) name refused long faulty uncertified unbuilt = uncertified id cause refused
+by_kind P text NotYet name refused long faulty uncertified unbuilt = unbuilt refused.0 refused.1
+by_kind P text Done name refused long faulty uncertified unbuilt = absurd refused
+by_kind P text BadWords name refused long faulty uncertified unbuilt = absurd refused
+by_kind P text Missing name refused long faulty uncertified unbuilt = absurd refused
+by_kind P text StepsUsed name refused long faulty uncertified unbuilt = absurd refused
+by_kind P text InputEnded name refused long faulty uncertified unbuilt = absurd refused
+by_kind P text (Outside address) name refused long faulty uncertified unbuilt = absurd refused
+by_kind P text (Halted number) name refused long faulty uncertified unbuilt = absurd refused
+by_kind P text ReadFault name refused long faulty uncertified unbuilt = absurd refused
+by_kind P text WriteFault name refused long faulty uncertified unbuilt = absurd refused
+by_kind P text OutOfMemory name refused long faulty uncertified unbuilt = absurd refused
+
+refused_not_certified : (text : List ℕ) (status : Status) (name : List ℕ) (p : SourceProgram) (z : Cert) → IsRefusedText text status name → IsCertified text p z → ⊥
+refused_not_certified text status name p z refused c =
+    by_kind (λ s. ⊥) text status name refused
+    (λ long. clash text long c.short)
+    (λ refusal short e. let f = c.program_is in cc)
+    (λ id cause u. u.none z (subst (λ q. IsValid q z) (same_program text p u.program c.program_is u.program_is) c.least.valid))
+    (λ short e. let f = c.program_is in cc)
+
+same_outcome : (text : List ℕ) (r s : SourceRefusal) → program_of_text text ≡ Refused r.token r.cause → program_of_text text ≡ Refused s.token s.cause → SourceRefused r ≡ SourceRefused s
+same_outcome text r s e f =
+    let tokens : r.token ≡ s.token = cc in
+    let causes : r.cause ≡ s.cause = cc in
+    let between : SourceRefusal = record { token = s.token; cause = r.cause } in
+    let first : r ≡ between = ap (λ (n : ℕ). record { token = n; cause = r.cause }) tokens in
+    let second : between ≡ s = ap (λ (c : SourceCause). record { token = s.token; cause = c }) causes in
+    ap SourceRefused (first ∙ second)
+
+same_definition : (p : SourceProgram) (id other : DefId) (cause reason : CertCause) → OneRefusal → Refuses p (record { definition = id.0; reason = cause }) → Refuses p (record { definition = other.0; reason = reason }) →
+    NotCertified id cause ≡ NotCertified other reason
+same_definition p id other cause reason one first second =
+    let same = one p (record { definition = id.0; reason = cause }) (record { definition = other.0; reason = reason }) first second in
+    let numbers : id.0 ≡ other.0 = ap (λ (r : Refusal). r.definition) same in
+    let causes : cause ≡ reason = ap (λ (r : Refusal). r.reason) same in
+    let ids : id ≡ other = ap (λ (n : ℕ). record { 0 = n }) numbers in
+    cc
+
+-- a text has one refusal at most
+one_refusal : OneRefusal → (text : List ℕ) (status other : Status) (name called : List ℕ) → IsRefusedText text status name → IsRefusedText text other called → status ≡ other
+one_refusal one text status other name called first second =
+    by_kind (λ s. s ≡ other) text status name first
+    (λ long. by_kind (λ s. TooLarge ≡ s) text other called second (λ again. refl) (λ r short e. clash text long short) (λ id cause u. clash text long u.short) (λ short e. clash text long short))
+    (λ r short e. by_kind (λ s. SourceRefused r ≡ s) text other called second (λ long. clash text long short) (λ s again f. same_outcome text r s e f) (λ id cause u. let f = u.program_is in cc) (λ again f. cc))
+    (λ id cause u. by_kind (λ s. NotCertified id cause ≡ s) text other called second (λ long. clash text long u.short) (λ r short e. let f = u.program_is in cc)
+    (λ other reason v. same_definition u.program id other cause reason one u.refusal (subst (λ p. Refuses p (record { definition = other.0; reason = reason })) (same_program text v.program u.program v.program_is u.program_is) v.refusal))
+    (λ short e. let f = u.program_is in cc))
+    (λ short e. by_kind (λ s. NotYet ≡ s) text other called second (λ long. clash text long short) (λ r again f. cc) (λ id cause u. let f = u.program_is in cc) (λ again f. refl))
+
+-- ---- what a command finds in a file that is told
+
+told_text : (files : Option Files) (source text other : List ℕ) → Tells files source text → Holds files source other → other ≡ text
+told_text None source text other told holds = absurd told
+told_text (Some files) source text other told holds = let e : Some other ≡ Some text = sym holds ∙ told in cc
+
+refused_text : (source text : List ℕ) (before : FolderState) (status : Status) (name : List ℕ) → Tells before.files source text →
+    (other : List ℕ) × Holds before.files source other × IsRefusedText other status name → (status ≡ OutOfMemory) ⊎ IsRefusedText text status name
+refused_text source text before status name told found = inr (subst (λ t. IsRefusedText t status name) (told_text before.files source text found.0 told found.1) found.2)
+
+not_missing : (files : Option Files) (source text : List ℕ) → Tells files source text → Lacks files source → ⊥
+not_missing None source text told lacks = told
+not_missing (Some files) source text told lacks = let e : Some text ≡ None = sym told ∙ lacks in cc
+
+refused_source : (source text : List ℕ) (before after : FolderState) (status : Status) (name : List ℕ) → Tells before.files source text → (Rose before.read_faults after.read_faults → ⊥) →
+    IsRefusedSource source before after status name → (status ≡ OutOfMemory) ⊎ IsRefusedText text status name
+refused_source source text before after Missing name told calm refused = absurd (not_missing before.files source text told refused.1)
+refused_source source text before after ReadFault name told calm refused = absurd (calm refused)
+refused_source source text before after OutOfMemory name told calm refused = inl refl
+refused_source source text before after TooLarge name told calm refused = refused_text source text before TooLarge name told refused
+refused_source source text before after (SourceRefused refusal) name told calm refused = refused_text source text before (SourceRefused refusal) name told refused
+refused_source source text before after (NotCertified id cause) name told calm refused = refused_text source text before (NotCertified id cause) name told refused
+refused_source source text before after NotYet name told calm refused = refused_text source text before NotYet name told refused
+refused_source source text before after Done name told calm refused = refused_text source text before Done name told refused
+refused_source source text before after BadWords name told calm refused = refused_text source text before BadWords name told refused
+refused_source source text before after StepsUsed name told calm refused = refused_text source text before StepsUsed name told refused
+refused_source source text before after InputEnded name told calm refused = refused_text source text before InputEnded name told refused
+refused_source source text before after (Outside address) name told calm refused = refused_text source text before (Outside address) name told refused
+refused_source source text before after (Halted number) name told calm refused = refused_text source text before (Halted number) name told refused
+refused_source source text before after WriteFault name told calm refused = refused_text source text before WriteFault name told refused
+
+-- a refused text and a certified one
+by_refusal : OneRefusal → (text : List ℕ) (status : Status) (name : List ℕ) (IsAnswer : Status → Type 0) → (status ≡ OutOfMemory) ⊎ IsRefusedText text status name → IsComplete text status IsAnswer
+by_refusal one text status name IsAnswer (inl wanting) = record { refused = λ refusal called refused. inl wanting; certified = λ p z c. inl wanting }
+by_refusal one text status name IsAnswer (inr found) = record {
+  refused = λ refusal called refused. inr (one_refusal one text status refusal name called found refused);
+  certified = λ p z c. absurd (refused_not_certified text status name p z found c);
+}
+
+by_certificate : (text : List ℕ) (status : Status) (IsAnswer : Status → Type 0) (p : SourceProgram) (z : Cert) → IsCertified text p z → IsAnswer status → IsComplete text status IsAnswer
+by_certificate text status IsAnswer p z found answer = record {
+  refused = λ refusal called refused. absurd (refused_not_certified text refusal called p z refused found);
+  certified = λ q y c. inr answer;
+}
+
+-- ---- the commands
+
+run_answer : (status : Status) (P Q : Type 0) → (status ≡ ReadFault) ⊎ ((status ≡ WriteFault) ⊎ IsRunAnswer status) → (status ≡ ReadFault → P) → (status ≡ WriteFault → Q) → (P → ⊥) → (Q → ⊥) → IsRunAnswer status
+run_answer status P Q (inl e) read write no_read no_write = absurd (no_read (read e))
+run_answer status P Q (inr (inl e)) read write no_read no_write = absurd (no_write (write e))
+run_answer status P Q (inr (inr answer)) read write no_read no_write = answer
+
+run_complete : OneRefusal → (source text : List ℕ) (steps : ℕ) (before after : Surroundings) (status : Status) (name : List ℕ) →
+    Runs source steps before after status name → Tells before.folder.files source text → FailsNowhere before after → IsComplete text status IsRunAnswer
+unfolding Runs
+run_complete one source text steps before after status name (read, inl refused) told calm =
+    by_refusal one text status name IsRunAnswer (refused_source source text before.folder after.folder status name told calm.folder refused.0)
+run_complete one source text steps before after status name (read, inr ran) told calm =
+    by_certificate text status IsRunAnswer ran.program ran.certificate
+    (subst (λ t. IsCertified t ran.program ran.certificate) (told_text before.folder.files source text ran.source_is.0 told ran.source_is.1) ran.source_is.2)
+    (run_answer status _ _ ran.drives.answered ran.drives.read_fault ran.drives.write_fault calm.console calm.out)
+
+done_answer : (program_text : List ℕ) (before after : Stream) (status : Status) → Writes before after program_text status → (Rose before.faults after.faults → ⊥) → status ≡ Done
+done_answer t before after Done writes calm = refl
+done_answer t before after WriteFault writes calm = absurd (calm writes.1)
+done_answer t before after BadWords writes calm = absurd writes
+done_answer t before after Missing writes calm = absurd writes
+done_answer t before after (SourceRefused refusal) writes calm = absurd writes
+done_answer t before after (NotCertified id cause) writes calm = absurd writes
+done_answer t before after StepsUsed writes calm = absurd writes
+done_answer t before after InputEnded writes calm = absurd writes
+done_answer t before after (Outside address) writes calm = absurd writes
+done_answer t before after (Halted number) writes calm = absurd writes
+done_answer t before after ReadFault writes calm = absurd writes
+done_answer t before after OutOfMemory writes calm = absurd writes
+done_answer t before after TooLarge writes calm = absurd writes
+done_answer t before after NotYet writes calm = absurd writes
+
+certify_complete : OneRefusal → (source text : List ℕ) (before after : Surroundings) (status : Status) (name : List ℕ) →
+    Certifies source before after status name → Tells before.folder.files source text → FailsNowhere before after → IsComplete text status (λ s. s ≡ Done)
+unfolding Certifies
+certify_complete one source text before after status name (read, console, inl refused) told calm =
+    by_refusal one text status name (λ s. s ≡ Done) (refused_source source text before.folder after.folder status name told calm.folder refused.0)
+certify_complete one source text before after status name (read, console, inr wrote) told calm =
+    by_certificate text status (λ s. s ≡ Done) wrote.program wrote.certificate
+    (subst (λ t. IsCertified t wrote.program wrote.certificate) (told_text before.folder.files source text wrote.source_is.0 told wrote.source_is.1) wrote.source_is.2)
+    (done_answer _ before.out after.out status wrote.writes calm.out)
+
+-- ---- each text is judged
+
+judged_program : RoundsEnd → RoundsFindTheLeast → RefusedHaveNone → (text : List ℕ) (p : SourceProgram) → length text ≤ 65536 → program_of_text text ≡ Fine p → All ProperToken p.tokens → IsJudged text
+judged_program end least none text p short is proper =
+    elim (end p) [
+      | inl settled ↦ inr (p, settled.0, record { short = short; program_is = is; least = least p settled.0 proper settled.1 })
+      | inr refused ↦ inl (
+        NotCertified (record { 0 = refused.0.definition }) refused.0.reason,
+        slice_index_or p.names refused.0.definition [],
+        record { program = p; short = short; program_is = is; refusal = refused.1; none = λ z valid. none p refused.0 z refused.1 valid; name_is = refl },
+      )
+    ]
+
+no_tokens : (p : SourceProgram) → p.tokens ≡ [] → All ProperToken p.tokens
+no_tokens p none = subst (All ProperToken) (sym none) (λ k token below. absurd (omega (arith, below)))
+
+judged_outcome : EachIsJudged → EachProgramIsSource → RoundsEnd → RoundsFindTheLeast → RefusedHaveNone → (text : List ℕ) (outcome : Outcome SourceProgram) → program_of_text text ≡ outcome → length text ≤ 65536 → IsJudged text
+judged_outcome each sources end least none text (Fine p) is short = judged_program end least none text p short is (no_tokens p (sources text p is).no_tokens)
+judged_outcome each sources end least none text (Refused token cause) is short = inl (SourceRefused (record { token = token; cause = cause }), [], (short, is))
+judged_outcome each sources end least none text NotBuilt is short = inl (NotYet, [], (short, is))
+judged_outcome each sources end least none text Endless is short = absurd (each text is)
+
+judged : EachIsJudged → EachProgramIsSource → RoundsEnd → RoundsFindTheLeast → RefusedHaveNone → (text : List ℕ) → IsJudged text
+judged each sources end least none text =
+    elim (nat_le (length text) 65536) as (λ short. nat_le (length text) 65536 ≡ short → IsJudged text) [
+      | true ↦ λ short. judged_outcome each sources end least none text (program_of_text text) refl (grind (arith, nat_tests))
+      | false ↦ λ long. inl (TooLarge, [], grind (arith, nat_tests))
+    ] refl
+
+pub complete : EachIsJudged → EachProgramIsSource → RoundsEnd → RoundsFindTheLeast → RefusedHaveNone → OneRefusal → AnswersAreComplete
+complete each sources end least none one = record {
+  each = judged each sources end least none;
+  run = run_complete one;
+  certify = certify_complete one;
+}

@@ -1,0 +1,5 @@
+use Rattle.library_laws.proofs.Leaving as law
+use Rattle.library_laws.proofs.laws.library_words_leave_well.Goals as goal
+
+pub returns : goal.returns
+returns c = law.leave_well
