@@ -1,4 +1,4 @@
-// Comments (ANS Forth, 6.1.0080 and 6.2.2535).
+// The comments of ANS Forth: `(` and `\`.
 ghost use Rattle.std.specs.Prelude.{◌≡◌, ◌≤◌, ℕ, IfOk, IfErr, IfSome, IfNone, length};
 ghost use Rattle.forth_reader.specs.declared.refusal.ReadCause.TheVariants as cause;
 ghost use Rattle.forth_reader.specs.Reading.{Refuses, next_from, parenthesis_from, line_from};

@@ -1,8 +1,8 @@
 //! Reads Forth source: tokens, comments, the texts of string words, names and numbers.
 //!
 //! A source is a list of bytes. A `Reader` goes over it once and takes no memory: `next` gives the next token that is no
-//! comment, `name` the next token whatever it is, and `string` the text that follows a string word (ANS Forth, sections
-//! 3.4.1 and 6.1). `number_of` says which number a token spells.
+//! comment, `name` the next token whatever it is, and `string` the text that follows a string word (the parsing and
+//! the Core words of ANS Forth). `number_of` says which number a token spells.
 //!
 //! In `specs/`, `Reading` computes what stands at a place of a text, and `Splitting` says what it means: how the text
 //! falls into blanks, whole comments, the token and the rest. The law `readings_are_splittings` ties the two.

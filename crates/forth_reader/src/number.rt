@@ -1,4 +1,4 @@
-// Tokens as numbers (Forth 2012, 3.4.1.3).
+// Tokens as numbers, as Forth 2012 spells them.
 ghost use Rattle.std.specs.Prelude.{◌≡◌, ◌≤◌, IfSome};
 ghost use Rattle.forth_reader.specs.Number.{raised_letter, digit_value, digits_read, signed_read, prefix_base, quoted_byte, unprefixed_read, number_read};
 
@@ -126,7 +126,7 @@ fn unprefixed_read(text: &[u8], base: u16) -> NumberRead
 }
 
 /// The number that a token spells: an optional `-` and one or more digits of the present base, letters in either case standing
-/// for 10 and more; `#`, `$` or `%` and the same in base 10, 16 or 2; or a byte between two quotes (Forth 2012, 3.4.1.3). Where
+/// for 10 and more; `#`, `$` or `%` and the same in base 10, 16 or 2; or a byte between two quotes, all as in Forth 2012. Where
 /// the present base is outside 2 to 36, only the last two are numbers.
 pub fn number_of(text: &str, base: u16) -> NumberRead
     ensures { result ≡ number_read base text.now }

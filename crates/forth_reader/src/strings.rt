@@ -1,4 +1,4 @@
-// The texts of string words (ANS Forth, 6.1.0190, 6.1.0680 and 6.1.2165).
+// The texts of string words of ANS Forth: `."`, `ABORT"` and `S"`.
 ghost use Rattle.std.specs.Prelude.{◌≡◌, ◌+◌, ◌≤◌, IfOk, IfErr, length};
 ghost use Rattle.forth_reader.specs.Bytes.{is_string_byte, passing_front, behind_front};
 ghost use Rattle.forth_reader.specs.Reading.{string_from, Quoted, Unquoted};

@@ -1,11 +1,11 @@
 // Words, their classes, and what the table says of each.
 
-/// A word of the source: the 124 words of the Core word set of ANS Forth (X3.215-1994, section 6.1) that a source text may
-/// use, 13 words of its Core extension (section 6.2), and `CODE-CELLS`, a word of this compiler. `DropTop` is `DROP`,
+/// A word of the source: the 124 words of the Core word set of ANS Forth (X3.215-1994) that a source text may
+/// use, 13 words of its Core extension word set, and `CODE-CELLS`, a word of this compiler. `DropTop` is `DROP`,
 /// `AbortRun` is `ABORT`, and `Index` and `OuterIndex` are `I` and `J`.
 #[derive(Clone, Copy, Debug, PartialEq, Eq)]
 pub enum Word {
-    // The data stack (ANS Forth, section 6.1: `DUP DROP SWAP OVER ROT 2DUP 2DROP`).
+    // The data stack (`DUP DROP SWAP OVER ROT 2DUP 2DROP`).
     Dup,
     DropTop,
     Swap,
@@ -13,10 +13,10 @@ pub enum Word {
     Rot,
     TwoDup,
     TwoDrop,
-    // `NIP` and `TUCK` (section 6.2).
+    // `NIP` and `TUCK` of the Core extension.
     Nip,
     Tuck,
-    // Arithmetic, logic and comparison on one cell or two (sections 3.2.2.2 and 6.1).
+    // Arithmetic, logic and comparison on one cell or two.
     Plus,
     Minus,
     Negate,
@@ -36,11 +36,11 @@ pub enum Word {
     ZeroEqual,
     ZeroLess,
     SToD,
-    // `0>`, `<>` and `WITHIN` (section 6.2).
+    // `0>`, `<>` and `WITHIN` of the Core extension.
     ZeroGreater,
     NotEqual,
     Within,
-    // Addresses, which are byte addresses with cells of two bytes (sections 3.3.3.1 and 6.1).
+    // Addresses, which are byte addresses with cells of two bytes.
     Cells,
     CellPlus,
     Chars,
@@ -48,30 +48,30 @@ pub enum Word {
     Aligned,
     Fetch,
     Store,
-    // Input and output of characters (section 6.1).
+    // Input and output of characters.
     Emit,
     Key,
     Blank,
     Cr,
     Space,
-    // `BASE`, `HERE`, `DECIMAL` and `DEPTH` (section 6.1).
+    // `BASE`, `HERE`, `DECIMAL` and `DEPTH`.
     Base,
     Here,
     Decimal,
     Depth,
-    // `HEX` (section 6.2).
+    // `HEX` of the Core extension.
     Hex,
-    // `ABORT` and `QUIT`, which end a run (section 6.1).
+    // `ABORT` and `QUIT`, which end a run.
     AbortRun,
     Quit,
-    // Words on the return stack and its loop parameters (sections 3.2.3.3 and 6.1).
+    // Words on the return stack and its loop parameters.
     ToR,
     RFrom,
     RFetch,
     Index,
     OuterIndex,
     Unloop,
-    // More of the data stack and of arithmetic, as library words (section 6.1).
+    // More of the data stack and of arithmetic, as library words.
     QDup,
     TwoSwap,
     TwoOver,
@@ -79,7 +79,7 @@ pub enum Word {
     Max,
     Min,
     TwoSlash,
-    // Bytes, pairs of cells and the growth of data space (sections 3.3.3 and 6.1).
+    // Bytes, pairs of cells and the growth of data space.
     CFetch,
     CStore,
     PlusStore,
@@ -90,7 +90,7 @@ pub enum Word {
     CComma,
     Allot,
     Align,
-    // Products and quotients (section 3.2.2.1); those that do not say how they round are floored.
+    // Products and quotients; those that do not say how they round are floored.
     UMStar,
     MStar,
     Star,
@@ -102,7 +102,7 @@ pub enum Word {
     Mod,
     StarSlashMod,
     StarSlash,
-    // Pictured numeric output and number display (sections 3.2.1.2 and 3.2.1.3).
+    // Pictured numeric output and number display.
     LessSharp,
     Hold,
     Sign,
@@ -111,20 +111,20 @@ pub enum Word {
     SharpGreater,
     Dot,
     UDot,
-    // Words over a run of bytes; `TypeOut` is `TYPE` (section 6.1).
+    // Words over a run of bytes; `TypeOut` is `TYPE`.
     TypeOut,
     Spaces,
     Fill,
     Move,
     Accept,
     ToNumber,
-    // `EXECUTE` (section 6.1.1370).
+    // `EXECUTE`.
     Execute,
-    // The string words `S"`, `."` and `ABORT"` (section 6.1).
+    // The string words `S"`, `."` and `ABORT"`.
     SQuote,
     DotQuote,
     AbortQuote,
-    // Structures, and what ends, leaves or calls a definition (sections 3.2.3.2 and 6.1).
+    // Structures, and what ends, leaves or calls a definition.
     If,
     While,
     Until,
@@ -135,7 +135,7 @@ pub enum Word {
     Do,
     Loop,
     PlusLoop,
-    // `?DO`, `AGAIN`, and `CASE` with its `OF`, `ENDOF` and `ENDCASE` (section 6.2).
+    // `?DO`, `AGAIN`, and `CASE` with its `OF`, `ENDOF` and `ENDCASE`, of the Core extension.
     QDo,
     Again,
     Case,
@@ -146,16 +146,16 @@ pub enum Word {
     Exit,
     Semicolon,
     Recurse,
-    // Literals and the brackets (section 6.1).
+    // Literals and the brackets.
     BracketTick,
     BracketChar,
     Literal,
     LeftBracket,
     RightBracket,
-    // Comments: `(` (section 6.1.0080) and `\` (section 6.2.2535).
+    // Comments: `(` of the Core word set and `\` of its extension.
     Paren,
     Backslash,
-    // Words that act while the source is read: defining words, `'`, `CHAR`, `DOES>` and `>BODY` (section 6.1).
+    // Words that act while the source is read: defining words, `'`, `CHAR`, `DOES>` and `>BODY`.
     Colon,
     Tick,
     Char,
