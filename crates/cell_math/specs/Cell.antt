@@ -1,5 +1,5 @@
 -- A cell is a number from 0 to 65535. Sums and products are modulo 65536, and the signed view is two's complement
--- (ANS Forth, section 3.2).
+-- (ANS Forth's cells, on a machine of 16 bits).
 use Rattle.std.specs.Prelude.{ℕ, ◌+◌, ◌-◌, ◌*◌, ◌/◌, ◌%◌, ℤ, pos, negsuc, nat_lt, Bool, if◌then◌else◌}
 
 abbrev pub sum_of : ℕ → ℕ → ℕ

@@ -1,4 +1,4 @@
--- The items of a definition, up to the word that ends them (ANS Forth, 3.2.3.2, 6.1 and 6.2).
+-- The items of a definition, up to the word that ends them (the control-flow stack of ANS Forth).
 use Rattle.std.specs.Prelude.{ℕ, zero, suc, ◌+◌, true, false, List, Result, Ok, Err}
 use Rattle.word_table.specs.declared.word.Word.TheVariants as word
 use Rattle.word_table.specs.Table.{entry_of}

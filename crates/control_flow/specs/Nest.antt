@@ -1,4 +1,4 @@
--- Open structures, and the words that open, part and end them (ANS Forth, 3.2.3.2 and 6.2).
+-- Open structures, and the words that open, part and end them (the control-flow stack of ANS Forth).
 use Rattle.std.specs.Prelude.{◌≡◌, nat_lt, Bool, true, false, ◌||◌, List, [], ◌∷◌, length, Result, Ok, Err, MatchResult}
 use Rattle.word_table.specs.declared.word.Word.{Word}
 use Rattle.word_table.specs.declared.word.Word.TheVariants as word

@@ -1,4 +1,4 @@
--- `?DO`, `AGAIN` and `CASE`: rows worked out by hand from ANS Forth (section 6.2) and the table of prices.
+-- `?DO`, `AGAIN` and `CASE`: rows worked out by hand from the Core extension of ANS Forth and the table of prices.
 use Rattle.std.specs.Prelude.{◌≡◌, [], ◌∷◌, refl, None, Some, true, false, codes}
 use Rattle.word_table.specs.declared.word.Word.TheVariants.{Dup, DropTop, Emit, Equal, Index, OuterIndex, Key, Plus, Swap, AbortRun, Quit}
 use Rattle.forth_program.specs.declared.item.TextKind.TheVariants as text

@@ -1,6 +1,6 @@
 -- The meaning of each table word that touches data cells and the world alone: what it takes, what it leaves, and its
 -- accesses in their order. Cells stand with the top first, so `x y -- y x` goes from `y ∷ x ∷ c` to `x ∷ y ∷ c`.
--- From the Core words of ANS Forth (X3.215-1994, sections 6.1 and 6.2) on cells of 16 bits, addresses in bytes, and flags 0 and 65535.
+-- From the Core words of ANS Forth (X3.215-1994) and its Core extension words on cells of 16 bits, addresses in bytes, and flags 0 and 65535.
 use Rattle.std.specs.Prelude.{ℕ, zero, suc, ◌+◌, ◌-◌, ◌*◌, ◌/◌, ◌%◌, ◌^◌, ◌==◌, nat_lt, false, not, if◌then◌else◌, List, ◌∷◌, length, bit_and, bit_or, bit_xor, Some, None}
 use Rattle.std.specs.Prelude.{pos, ◌*ℤ◌, int_lt, unsigned_abs}
 use Rattle.word_table.specs.declared.word.Word.{Word}
@@ -52,7 +52,7 @@ lesser x y = if int_lt (signed x) (signed y) then x else y
 
 -- what a word does with the cells, the top first, and the world
 abbrev pub meaning : Word → List ℕ → World → CellsLeft
--- ---- the data stack (section 3.2.3.1; DEPTH is modulo 65536)
+-- ---- the data stack (DEPTH is modulo 65536)
 meaning Dup (x ∷ c) w = Gives (x ∷ x ∷ c) w
 meaning DropTop (x ∷ c) w = Gives c w
 meaning Swap (y ∷ x ∷ c) w = Gives (x ∷ y ∷ c) w
@@ -67,7 +67,7 @@ meaning QDup (suc x ∷ c) w = Gives (suc x ∷ suc x ∷ c) w
 meaning TwoSwap (w' ∷ z ∷ y ∷ x ∷ c) w = Gives (y ∷ x ∷ w' ∷ z ∷ c) w
 meaning TwoOver (w' ∷ z ∷ y ∷ x ∷ c) w = Gives (y ∷ x ∷ w' ∷ z ∷ y ∷ x ∷ c) w
 meaning Depth c w = Gives (length c % 65536 ∷ c) w
--- ---- arithmetic, logic and comparison (section 3.2.2); a shift is by the count modulo 16
+-- ---- arithmetic, logic and comparison; a shift is by the count modulo 16
 meaning Plus (y ∷ x ∷ c) w = Gives (sum_of x y ∷ c) w
 meaning Minus (y ∷ x ∷ c) w = Gives (difference_of x y ∷ c) w
 meaning Negate (x ∷ c) w = Gives (negated x ∷ c) w
@@ -99,7 +99,7 @@ meaning CellPlus (x ∷ c) w = Gives (sum_of x 2 ∷ c) w
 meaning Chars (x ∷ c) w = Gives (x ∷ c) w
 meaning CharPlus (x ∷ c) w = Gives (sum_of x 1 ∷ c) w
 meaning Aligned (x ∷ c) w = Gives (even (sum_of x 1) ∷ c) w
--- ---- products and quotients of whole numbers (section 3.2.2.1; / MOD /MOD */ and */MOD are floored)
+-- ---- products and quotients of whole numbers (/ MOD /MOD */ and */MOD are floored)
 meaning UMStar (y ∷ x ∷ c) w = Gives (put (x * y) c) w
 meaning MStar (y ∷ x ∷ c) w = Gives (put (double_of (signed x *ℤ signed y)) c) w
 meaning Star (y ∷ x ∷ c) w = Gives (x * y % 65536 ∷ c) w
@@ -111,7 +111,7 @@ meaning Slash (m ∷ n ∷ c) w = quotient_only (floored_division (signed n) (si
 meaning Mod (m ∷ n ∷ c) w = rest_only (floored_division (signed n) (signed m)) c w
 meaning StarSlashMod (k ∷ m ∷ n ∷ c) w = both (floored_division (signed n *ℤ signed m) (signed k)) c w
 meaning StarSlash (k ∷ m ∷ n ∷ c) w = quotient_only (floored_division (signed n *ℤ signed m) (signed k)) c w
--- ---- data space (section 3.3.3)
+-- ---- data space
 meaning Fetch (a ∷ c) w = fetch a w ▸ λ x. Gives (x ∷ c)
 meaning Store (a ∷ x ∷ c) w = store a x w ▸ λ _. Gives c
 meaning CFetch (a ∷ c) w = fetch_byte a w ▸ λ x. Gives (x ∷ c)
@@ -140,7 +140,7 @@ meaning Fill (x ∷ u ∷ a ∷ c) w = fill u a x w ▸ λ _. Gives c
 meaning Move (u ∷ b ∷ a ∷ c) w = move u a b w ▸ λ _. Gives c
 meaning Accept (u ∷ a ∷ c) w = accept u a 0 w ▸ λ n. Gives (n ∷ c)
 meaning ToNumber (u ∷ a ∷ h ∷ l ∷ c) w = base w ▸ λ b w. number_from b u a (double l h) w ▸ λ r. Gives (r.2 ∷ r.1 ∷ put r.0 c)
--- ---- pictured numeric output (section 3.2.1.2) and number display (section 3.2.1.3)
+-- ---- pictured numeric output and number display
 meaning LessSharp c w = open_picture w ▸ λ _. Gives c
 meaning Hold (x ∷ c) w = hold x w ▸ λ _. Gives c
 meaning Sign (n ∷ c) w = hold_sign (int_lt (signed n) (pos 0)) w ▸ λ _. Gives c

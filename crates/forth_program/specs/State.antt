@@ -3,7 +3,7 @@ use Rattle.std.specs.Prelude.{ℕ, List, Bool}
 use Rattle.forth_program.specs.Tree.{Node, Nodes, Arms}
 
 -- an entry of a frame's return stack: one cell, or one loop with its limit and its index
--- (ANS Forth, sections 3.2.3.3 and 3.1.5.2)
+-- (the return stack and loop-sys of ANS Forth)
 pub data Entry : Type 0 where
   Cell : (value : ℕ) → Entry
   Loop : (limit index : ℕ) → Entry

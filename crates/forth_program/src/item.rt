@@ -9,7 +9,7 @@ use word_table::Word;
 #[derive(Clone, Copy, Debug, PartialEq, Eq)]
 pub struct DefId(pub u16);
 
-/// Which string word a text belongs to (ANS Forth, sections 6.1.0190, 6.1.2165 and 6.1.0680).
+/// Which string word of ANS Forth a text belongs to.
 #[derive(Clone, Copy, Debug, PartialEq, Eq)]
 pub enum TextKind {
     /// `."`: the text is printed.

@@ -1,4 +1,4 @@
--- The number that a token spells (Forth 2012, 3.4.1.3).
+-- The number that a token spells, as Forth 2012 spells numbers.
 use Rattle.std.specs.Prelude.{ℕ, ◌+◌, ◌-◌, ◌*◌, ◌^◌, nat_le, nat_lt, ◌==◌, ◌&&◌, Bool, true, false, List, [], ◌∷◌, length, slice_index_or, Option, Some, None}
 use Rattle.std.specs.List.{list_all}
 use Rattle.forth_reader.specs.Bytes.{is_graphic}

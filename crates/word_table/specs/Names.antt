@@ -1,4 +1,4 @@
--- The names of the words, letters without case (ANS Forth, section 3.3.1.2).
+-- The names of the words, letters without case, which ANS Forth leaves to the system.
 use Rattle.std.specs.Prelude.{◌≡◌, ℕ, Bool, true, false, List, [], ◌∷◌, Option, Some, None}
 use Rattle.std.specs.Str.{bytes_eq, str_to_ascii_lowercase}
 use Rattle.word_table.specs.declared.word.Word.{Word}

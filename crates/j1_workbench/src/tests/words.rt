@@ -145,7 +145,7 @@ const TABLE: &str = r#"
 | `CODE-CELLS` | host | n -- | 0 | 0 | 0 | 0 | 0 | 0 | | leaves n cells for code: data space begins at byte address 2n |
 "#;
 
-// The Core word set (ANS Forth, section 6.1).
+// The Core word set of ANS Forth.
 const CORE: &str = r#"
 ! # #> #S ' ( * */ */MOD + +! +LOOP , - . ." / /MOD 0< 0= 1+ 1- 2! 2* 2/ 2@ 2DROP 2DUP 2OVER 2SWAP : ; < <# = > >BODY
 >IN >NUMBER >R ?DUP @ ABORT ABORT" ABS ACCEPT ALIGN ALIGNED ALLOT AND BASE BEGIN BL C! C, C@ CELL+ CELLS CHAR CHAR+
