@@ -5,6 +5,24 @@ use Rattle.word_table.specs.declared.word.Word.TheVariants.{QDup, TwoSwap, TwoOv
 use Rattle.word_table.specs.declared.word.Word.TheVariants.{CComma, Allot, Align, UMStar, MStar, Star, UMSlashMod, SMSlashRem, FMSlashMod, SlashMod, Slash, Mod, StarSlashMod, StarSlash}
 use Rattle.word_table.specs.declared.word.Word.TheVariants.{LessSharp, Hold, Sign, Sharp, SharpS, SharpGreater, TypeOut, Dot, UDot, Spaces, Fill, Move, Accept, ToNumber}
 
+-- the number of a word of output, of memory blocks or of input
+abbrev pub output_number : Word → Option ℕ
+output_number LessSharp = Some 28
+output_number Hold = Some 29
+output_number Sign = Some 30
+output_number Sharp = Some 31
+output_number SharpS = Some 32
+output_number SharpGreater = Some 33
+output_number TypeOut = Some 34
+output_number Dot = Some 35
+output_number UDot = Some 36
+output_number Spaces = Some 37
+output_number Fill = Some 38
+output_number Move = Some 39
+output_number Accept = Some 40
+output_number ToNumber = Some 41
+output_number word = None
+
 -- the number of a library word, from 0
 abbrev pub library_number : Word → Option ℕ
 library_number QDup = Some 0
@@ -35,18 +53,4 @@ library_number Slash = Some 24
 library_number Mod = Some 25
 library_number StarSlashMod = Some 26
 library_number StarSlash = Some 27
-library_number LessSharp = Some 28
-library_number Hold = Some 29
-library_number Sign = Some 30
-library_number Sharp = Some 31
-library_number SharpS = Some 32
-library_number SharpGreater = Some 33
-library_number TypeOut = Some 34
-library_number Dot = Some 35
-library_number UDot = Some 36
-library_number Spaces = Some 37
-library_number Fill = Some 38
-library_number Move = Some 39
-library_number Accept = Some 40
-library_number ToNumber = Some 41
-library_number word = None
+library_number word = output_number word

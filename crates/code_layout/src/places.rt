@@ -1,11 +1,34 @@
 // Where the code of library words and definitions begins.
 ghost use Rattle.std.specs.Prelude.{◌≡◌};
-ghost use Rattle.code_layout.specs.Numbering.{library_number as number_of};
+ghost use Rattle.code_layout.specs.Numbering.{library_number as number_of, output_number as output_number_of};
 
 use word_table::Word;
 
 /// The number of `TYPE`, with which texts are printed.
 pub(crate) const TYPE: usize = 34;
+
+// The number of a word of output, of memory blocks or of input.
+fn output_number(word: Word) -> Option<u16>
+    ensures { result ≡ output_number_of word }
+{
+    match word {
+        Word::LessSharp => Some(28),
+        Word::Hold => Some(29),
+        Word::Sign => Some(30),
+        Word::Sharp => Some(31),
+        Word::SharpS => Some(32),
+        Word::SharpGreater => Some(33),
+        Word::TypeOut => Some(34),
+        Word::Dot => Some(35),
+        Word::UDot => Some(36),
+        Word::Spaces => Some(37),
+        Word::Fill => Some(38),
+        Word::Move => Some(39),
+        Word::Accept => Some(40),
+        Word::ToNumber => Some(41),
+        _ => None,
+    }
+}
 
 /// The number of a library word, in the order of the library.
 pub(crate) fn library_number(word: Word) -> Option<u16>
@@ -40,21 +63,7 @@ pub(crate) fn library_number(word: Word) -> Option<u16>
         Word::Mod => Some(25),
         Word::StarSlashMod => Some(26),
         Word::StarSlash => Some(27),
-        Word::LessSharp => Some(28),
-        Word::Hold => Some(29),
-        Word::Sign => Some(30),
-        Word::Sharp => Some(31),
-        Word::SharpS => Some(32),
-        Word::SharpGreater => Some(33),
-        Word::TypeOut => Some(34),
-        Word::Dot => Some(35),
-        Word::UDot => Some(36),
-        Word::Spaces => Some(37),
-        Word::Fill => Some(38),
-        Word::Move => Some(39),
-        Word::Accept => Some(40),
-        Word::ToNumber => Some(41),
-        _ => None,
+        _ => output_number(word),
     }
 }
 

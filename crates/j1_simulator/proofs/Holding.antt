@@ -1,10 +1,10 @@
 -- What an output holds after a flush.
-use Rattle.std.proofs.Common.{ℕ, List, [], ◌++◌, take, drop, Option, Some, None, sym, ap, ◌∙◌, append_assoc}
-use Rattle.std.proofs.lemmas.List.{take-append-drop, append-nil}
+use Rattle.std.proofs.Common.{◌≡◌, ℕ, List, [], ◌++◌, take, drop, Option, Some, None, sym, ap, ◌∙◌, append_assoc}
+use Rattle.std.proofs.lemmas.List.{take-append-drop, append-nil, append_cancel_right}
 use Rattle.std.specs.Prelude.{Result, Ok, Err, OnErr}
 use Rattle.std.specs.Io.KnownBytes.{Appends}
 use Rattle.outside_io.specs.Bytes.{AppendsFront}
-use Rattle.j1_simulator.specs.Drive.{Holds, HoldsFront}
+use Rattle.j1_simulator.specs.Drive.{Holds, HoldsFront, HoldsAll}
 
 pub holds_more : (before now : Option (List ℕ)) (buffer printed bs : List ℕ) → Holds before now buffer printed → Holds before now (buffer ++ bs) (printed ++ bs)
 holds_more None now buffer printed bs h = h
@@ -34,3 +34,39 @@ front_more (Some old) (Some new) printed bs h = (h.0, h.1, (h.2.0 ++ bs, sym (ap
 pub into_err : {T E : Type 0} (r : Result T E) (P : Type 0) → P → OnErr r P
 into_err (Ok x) P h = tt
 into_err (Err e) P h = h
+
+-- ---- known bytes that only grow
+
+pub grows_not : (now : Option (List ℕ)) → HoldsAll now now []
+grows_not None = ([], tt)
+grows_not (Some bytes) = ([], sym (append-nil bytes))
+
+pub grows_flushed : (now later : Option (List ℕ)) (buffer : List ℕ) → Appends now later buffer → HoldsAll now later []
+grows_flushed now later buffer a = (buffer, a)
+
+pub grows_front : (now later : Option (List ℕ)) (buffer : List ℕ) → AppendsFront now later buffer → HoldsAll now later []
+grows_front now later buffer a = (take a.0 buffer, a.1)
+
+pub grows_then : (now later last : Option (List ℕ)) → HoldsAll now later [] → HoldsAll later last [] → HoldsAll now last []
+grows_then None later last a b = ([], tt)
+grows_then (Some xs) None last a b = absurd a.1
+grows_then (Some xs) (Some ys) None a b = absurd b.1
+grows_then (Some xs) (Some ys) (Some zs) a b = (a.0 ++ b.0, b.1 ∙ ap (λ x. x ++ b.0) a.1 ∙ append_assoc xs a.0 b.0)
+
+-- what no longer waited stands in out still
+pub holds_still : (before now later : Option (List ℕ)) (written buffer printed : List ℕ) → Holds before now buffer printed → written ++ buffer ≡ printed → HoldsAll now later [] → HoldsAll before later written
+holds_still None now later written buffer printed h w g = ([], tt)
+holds_still (Some old) None later written buffer printed h w g = absurd h
+holds_still (Some old) (Some new) None written buffer printed h w g = absurd g.1
+holds_still (Some old) (Some new) (Some last) written buffer printed h w g =
+    let same : h.0 ≡ written = append_cancel_right h.0 written buffer (h.2 ∙ sym w) in
+    let whole : last ≡ old ++ (h.0 ++ g.0) = g.1 ∙ ap (λ x. x ++ g.0) h.1 ∙ append_assoc old h.0 g.0 in
+    (g.0, whole ∙ ap (λ x. old ++ (x ++ g.0)) same)
+
+-- known bytes that have all that was printed have it still
+pub all_still : (before now later : Option (List ℕ)) (printed : List ℕ) → HoldsAll before now printed → HoldsAll now later [] → HoldsAll before later printed
+all_still None now later printed a g = ([], tt)
+all_still (Some old) None later printed a g = absurd a.1
+all_still (Some old) (Some new) None printed a g = absurd g.1
+all_still (Some old) (Some new) (Some last) printed a g =
+    (a.0 ++ g.0, g.1 ∙ ap (λ x. x ++ g.0) a.1 ∙ append_assoc old (printed ++ a.0) g.0 ∙ ap (λ x. old ++ x) (append_assoc printed a.0 g.0))

@@ -7,6 +7,10 @@ pub mod Holding
 pub mod Counting
 pub mod Turning
 pub mod Wanting
+pub mod WaitingBytes
+pub mod TurnEnd
 pub mod Running
+pub mod Questions
+pub mod Unwritten
 pub mod Driving
 pub mod Bytes

@@ -15,7 +15,7 @@ use Rattle.j1_simulator.specs.Run.{Configuration, advance}
 use Rattle.j1_simulator.specs.declared.ends.DriveError.{DriveError}
 use Rattle.j1_simulator.specs.declared.ends.DriveError.TheVariants.{Read, Write}
 use Rattle.j1_simulator.specs.Drive.{Holds, HoldsFront, StandsAt, IsAt, ended_by, counters_fit, KeepsEnd}
-use Rattle.j1_simulator.specs.Turn.{LeftAfter, ComesFrom, IsTaken, TurnEnds}
+use Rattle.j1_simulator.specs.Turn.{LeftAfter, ComesFrom, IsTaken, MayWait, Follows, Fills, TurnEnds}
 use Rattle.j1_simulator.proofs.Holding.{holds_flushed, holds_front}
 use Rattle.j1_simulator.specs.Laws.{BeginsAtStart, WantsExactly, StepIsInstruction, GivenStepIsInstruction}
 use Rattle.j1_simulator.proofs.Turning.{Turned, turned, key_turned, kept_left, wants_not, ends_of}
@@ -63,21 +63,22 @@ narrowed configuration fits later machine data_start left before now buffer f a 
     record { stands = record { core = a.stands.core; start_is = a.stands.start_is; ended = a.stands.ended; depths = λ t. a.stands.depths (f t) }; left_is = a.left_is; out = a.out }
 
 -- a step that was noted
-pub noted : (r : Result (Option End) DriveError) (taken : Option (Option ℕ)) (configuration : Configuration ℕ RingCells) (fits : Bool) (new : MachineState) (data_start : ℕ) (left before now now' : Option (List ℕ)) (buffer buffer' : List ℕ) (event : Event) → Turned (advance data_start configuration) (fits && counters_fit (advance data_start configuration)) new data_start left before now buffer event → OnErr r (r ≡ Err Write) → OnOk r (Holds before now' buffer' (advance data_start configuration).printed) → OnErr r (HoldsFront before now' (advance data_start configuration).printed) → TurnEnds r taken configuration fits new data_start left before now' buffer'
-noted (Ok end) taken configuration fits new data_start left before now now' buffer buffer' event t e h f = record { stands = t.at.stands; left_is = t.at.left_is; out = h }
-noted (Err Read) taken configuration fits new data_start left before now now' buffer buffer' event t e h f = cc
-noted (Err Write) taken configuration fits new data_start left before now now' buffer buffer' event t e h f = inr (record { stands = t.at.stands; left_is = t.at.left_is; front = f })
+pub noted : (r : Result (Option End) DriveError) (taken : Option (Option ℕ)) (old : MachineState) (waited : List ℕ) (configuration : Configuration ℕ RingCells) (fits : Bool) (new : MachineState) (data_start : ℕ) (left before now now' : Option (List ℕ)) (buffer buffer' : List ℕ) (event : Event) → Turned (advance data_start configuration) (fits && counters_fit (advance data_start configuration)) new data_start left before now buffer event → OnErr r (r ≡ Err Write) → OnOk r (Holds before now' buffer' (advance data_start configuration).printed) → OnErr r (HoldsFront before now' (advance data_start configuration).printed)
+    → OnOk r (MayWait old waited → Follows new configuration (advance data_start configuration) waited buffer') → OnErr r (Fills new configuration (advance data_start configuration) waited) → TurnEnds r taken old waited configuration fits new data_start left before now' buffer'
+noted (Ok end) taken old waited configuration fits new data_start left before now now' buffer buffer' event t e h f follows fills = (record { stands = t.at.stands; left_is = t.at.left_is; out = h }, follows)
+noted (Err Read) taken old waited configuration fits new data_start left before now now' buffer buffer' event t e h f follows fills = cc
+noted (Err Write) taken old waited configuration fits new data_start left before now now' buffer buffer' event t e h f follows fills = inr (fills, record { stands = t.at.stands; left_is = t.at.left_is; front = f })
 
 -- a turn whose first flush failed
-pub not_flushed : (r : Result (Option End) DriveError) (configuration : Configuration ℕ RingCells) (fits : Bool) (machine new : MachineState) (data_start : ℕ) (left left' before now now' : Option (List ℕ)) (buffer buffer' : List ℕ) → r ≡ Err Write → LeftAfter None left left' → IsAt configuration fits machine data_start left before now buffer → new ≡ machine → AppendsFront now now' buffer → TurnEnds r None configuration fits new data_start left' before now' buffer'
-not_flushed r configuration fits machine new data_start left left' before now now' buffer buffer' e l a same bytes =
-    subst (λ r. TurnEnds r None configuration fits new data_start left' before now' buffer') (sym e)
-    (inl (refl, record { stands = subst (λ m. StandsAt configuration fits m data_start) (sym same) a.stands; left_is = subst (λ x. LeftAfter None x left') a.left_is l; front = holds_front before now now' buffer configuration.printed a.out bytes }))
+pub not_flushed : (r : Result (Option End) DriveError) (configuration : Configuration ℕ RingCells) (fits : Bool) (machine new : MachineState) (data_start : ℕ) (left left' before now now' : Option (List ℕ)) (buffer buffer' : List ℕ) → r ≡ Err Write → LeftAfter None left left' → IsAt configuration fits machine data_start left before now buffer → new ≡ machine → WantsAByte machine → AppendsFront now now' buffer → TurnEnds r None machine buffer configuration fits new data_start left' before now' buffer'
+not_flushed r configuration fits machine new data_start left left' before now now' buffer buffer' e l a same w bytes =
+    subst (λ r. TurnEnds r None machine buffer configuration fits new data_start left' before now' buffer') (sym e)
+    (inl (refl, subst WantsAByte (sym same) w, record { stands = subst (λ m. StandsAt configuration fits m data_start) (sym same) a.stands; left_is = subst (λ x. LeftAfter None x left') a.left_is l; front = holds_front before now now' buffer configuration.printed a.out bytes }))
 
 -- a turn whose question failed
-pub not_asked : (r : Result (Option End) DriveError) (configuration : Configuration ℕ RingCells) (fits : Bool) (machine new : MachineState) (data_start : ℕ) (left left' before now now' : Option (List ℕ)) (buffer buffer' : List ℕ) → r ≡ Err Read → LeftAfter None left left' → IsAt configuration fits machine data_start left before now buffer → new ≡ machine → Appends now now' buffer → TurnEnds r None configuration fits new data_start left' before now' buffer'
+pub not_asked : (r : Result (Option End) DriveError) (configuration : Configuration ℕ RingCells) (fits : Bool) (machine new : MachineState) (data_start : ℕ) (left left' before now now' : Option (List ℕ)) (buffer buffer' : List ℕ) → r ≡ Err Read → LeftAfter None left left' → IsAt configuration fits machine data_start left before now buffer → new ≡ machine → Appends now now' buffer → TurnEnds r None machine buffer configuration fits new data_start left' before now' buffer'
 not_asked r configuration fits machine new data_start left left' before now now' buffer buffer' e l a same bytes =
-    subst (λ r. TurnEnds r None configuration fits new data_start left' before now' buffer') (sym e)
+    subst (λ r. TurnEnds r None machine buffer configuration fits new data_start left' before now' buffer') (sym e)
     (kept_left configuration fits new data_start left left' before now' [] l (flushed configuration fits machine new data_start left before now now' buffer a same bytes))
 
 -- no byte was asked for

@@ -1,17 +1,19 @@
 -- What a driven machine, its console and its output stand for.
 -- `None` in place of bytes means that an object does not tell its bytes.
-use Rattle.std.specs.Prelude.{ℕ, zero, suc, ◌≡◌, ◌<◌, ◌≤◌, ◌^◌, nat_lt, Bool, ◌&&◌, IsTrue, ℤ, pos, negsuc, List, [], ◌∷◌, ◌++◌, Option, Some, None, option_map, ⊤, Result, Ok, Err}
+use Rattle.std.specs.Prelude.{ℕ, zero, suc, ◌≡◌, ◌⊎◌, ◌+◌, ◌<◌, ◌≤◌, ◌^◌, nat_lt, Bool, ◌&&◌, IsTrue, ℤ, pos, negsuc, List, [], ◌∷◌, ◌++◌, length, Option, Some, None, option_map, ⊤, Result, Ok, Err}
+use Rattle.std.specs.Io.KnownBytes.{Appends, Consumes}
 use Rattle.j1_simulator.specs.declared.ends.Event.{Event}
 use Rattle.j1_simulator.specs.declared.ends.End.{End}
+use Rattle.j1_simulator.specs.declared.ends.End.TheVariants.{InputEnded}
 use Rattle.j1_simulator.specs.declared.ends.Event.TheVariants.{Went, Printed, WantsByte}
 use Rattle.j1_simulator.specs.declared.ends.Event.TheVariants as events
 use Rattle.j1_simulator.specs.declared.ends.Finish.{Finish}
 use Rattle.j1_simulator.specs.declared.ends.Finish.TheVariants.{Ended, StepsUsed}
 use Rattle.j1_simulator.specs.declared.ends.DriveError.{DriveError}
 use Rattle.j1_simulator.specs.declared.ends.DriveError.TheVariants.{Read, Write}
-use Rattle.j1_simulator.specs.Step.{By}
+use Rattle.j1_simulator.specs.Step.{Stop, By, step}
 use Rattle.j1_simulator.specs.RoundMachine.{RingCells, round_storage}
-use Rattle.j1_simulator.specs.MachineState.{MachineState, Depths}
+use Rattle.j1_simulator.specs.MachineState.{MachineState, Depths, IsTaking}
 use Rattle.j1_simulator.specs.Run.{Configuration, IsPrefixOf, run}
 
 -- known bytes that were before are now followed by what was printed, but for what waits in the buffer
@@ -25,6 +27,10 @@ abbrev pub HoldsFront : Option (List ℕ) → Option (List ℕ) → List ℕ →
 HoldsFront None now printed = ⊤
 HoldsFront (Some old) None printed = ⊥
 HoldsFront (Some old) (Some new) printed = (written : List ℕ) × (new ≡ old ++ written) × IsPrefixOf written printed
+
+-- known bytes that were before are now followed by all of what was printed, and perhaps by more
+abbrev pub HoldsAll : Option (List ℕ) → Option (List ℕ) → List ℕ → Type 0
+HoldsAll before now printed = (more : List ℕ) × Appends before now (printed ++ more)
 
 -- a whole number is one of a signed 64-bit integer
 abbrev pub in_64_bits : ℤ → Bool
@@ -110,23 +116,54 @@ abbrev pub IsDriven : MachineState → ℕ → List ℕ → MachineState → Opt
 IsDriven old n bytes new left before now buffer =
     IsAt (driven old n (input_for old.given bytes)) (driven_fits old n (input_for old.given bytes)) new old.data_start (left_of old.given n left) before now buffer
 
--- it has come there, and out has only a beginning of what they printed
-abbrev pub IsBrokenOff : MachineState → ℕ → List ℕ → MachineState → Option (List ℕ) → Option (List ℕ) → Option (List ℕ) → Type 0
-IsBrokenOff old n bytes new left before now =
-    StandsWritten (driven old n (input_for old.given bytes)) (driven_fits old n (input_for old.given bytes)) new old.data_start (left_of old.given n left) before now
+-- the next instruction takes a byte
+abbrev pub TakesNext : ℕ → Configuration ℕ RingCells → Type 0
+TakesNext data_start configuration = (configuration.stop ≡ None) × IsTaking (step round_storage data_start configuration.core)
 
--- the machine has made at most n instructions of its run on some bytes of the console: all n where the answer is StepsUsed,
--- fewer where a read failed;
--- what they printed stands in out, where it tells its bytes, or a beginning of it after a failed write
-pub record MadeAtMost (n : ℕ) (result : Result Finish DriveError) (old new : MachineState) (before now : Option (List ℕ)) : Type 0 where
+-- after so many instructions of a run, out has all that was printed until a moment since which no byte was taken. From then on
+-- bytes waited to be written: fewer than 512 until the last instruction. Then they were written, since there were 512, or
+-- a byte was due, or the run had ended, or was to break off here. Where it ended for want of input, all had been written before
+pub record LacksLast (limit made : ℕ) (at : ℕ → Configuration ℕ RingCells) (data_start : ℕ) (before now : Option (List ℕ)) : Type 0 where
+  pub since : ℕ
+  pub earlier : since ≤ made
+  pub untaken : (at since).input ≡ (at made).input
+  pub kept : HoldsAll before now (at since).printed
+  pub short : (j : ℕ) → j < made → length (at j).printed < length (at since).printed + 512
+  pub due :
+      (length (at made).printed ≡ length (at since).printed + 512)
+      ⊎ ((length (at made).printed < length (at since).printed + 512)
+      × (TakesNext data_start (at made) ⊎ ((stop : Stop) × ((at made).stop ≡ Some stop)) ⊎ (made ≡ limit)))
+  pub ended : (at made).stop ≡ Some (By InputEnded) → HoldsAll before now (at made).printed
+
+-- it has come to a moment of its run at which a write was due, and out has only a beginning of what was printed
+pub record IsBrokenOff (limit : ℕ) (old : MachineState) (bytes : List ℕ) (new : MachineState) (left before now : Option (List ℕ)) : Type 0 where
+  pub made : ℕ
+  pub within : made ≤ limit
+  pub stands : StandsWritten (driven old made (input_for old.given bytes)) (driven_fits old made (input_for old.given bytes)) new old.data_start (left_of old.given made left) before now
+  pub lacks : LacksLast limit made (λ k. driven old k (input_for old.given bytes)) old.data_start before now
+
+-- a question that no byte answered: it failed, or the input had ended
+abbrev pub in_vain : Result Finish DriveError → Option End → ℕ
+in_vain (Err Read) end = 1
+in_vain result (Some InputEnded) = 1
+in_vain result end = 0
+
+-- the machine has made at most n instructions of its run on the bytes that the console gave: all n where the answer is StepsUsed,
+-- fewer where a read failed. The console was asked at most once for each of these bytes, and once in vain;
+-- what the instructions printed stands in out, where it tells its bytes, or a beginning of it after a failed write
+pub record MadeAtMost (n : ℕ) (result : Result Finish DriveError) (old new : MachineState) (left after before now : Option (List ℕ)) (calls_before calls_after : ℕ) : Type 0 where
   pub made : ℕ
   pub within : made ≤ n
   pub all : result ≡ Ok StepsUsed → made ≡ n
   pub fewer : result ≡ Err Read → made < n
   pub bytes : List ℕ
+  pub took : Consumes left after bytes
+  pub used : left_of old.given made (Some []) ≡ Some (driven old made (input_for old.given bytes)).input
+  pub calls : calls_after ≤ calls_before + length bytes + in_vain result new.ended
   pub stands : StandsAt (driven old made (input_for old.given bytes)) (driven_fits old made (input_for old.given bytes)) new old.data_start
   pub written : (result ≡ Err Write → ⊥) → Holds before now [] (driven old made (input_for old.given bytes)).printed
   pub front : HoldsFront before now (driven old made (input_for old.given bytes)).printed
+  pub lacks : result ≡ Err Write → LacksLast n made (λ k. driven old k (input_for old.given bytes)) old.data_start before now
 
 -- a machine that had ended has that end still
 abbrev pub KeepsEnd : MachineState → MachineState → Type 0

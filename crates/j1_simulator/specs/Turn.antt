@@ -1,5 +1,5 @@
 -- What one turn of a drive does: one instruction, with the question for its byte.
-use Rattle.std.specs.Prelude.{ℕ, ◌≡◌, ◌⊎◌, Bool, ◌&&◌, List, [], drop, Option, Some, None, IfSome, slice_get, Result, Ok, Err}
+use Rattle.std.specs.Prelude.{ℕ, ◌≡◌, ◌⊎◌, ◌+◌, ◌≤◌, Bool, ◌&&◌, List, [], ◌++◌, length, drop, Option, Some, None, IfSome, slice_get, Result, Ok, Err}
 use Rattle.j1_simulator.specs.declared.ends.End.{End}
 use Rattle.j1_simulator.specs.declared.ends.End.TheVariants.{InputEnded}
 use Rattle.j1_simulator.specs.declared.ends.DriveError.{DriveError}
@@ -25,20 +25,53 @@ pub record IsTaken (old new : MachineState) (taken : Option (Option ℕ)) (left 
   pub wanted : (byte : Option ℕ) → taken ≡ Some byte → WantsAByte (record old { given = None })
   pub none_left : taken ≡ Some None → new.ended ≡ Some InputEnded
 
--- a turn from this moment, which took such a byte, has come to the next one, or broke off; before it did, it took none
-abbrev pub TurnEnds : Result (Option End) DriveError → Option (Option ℕ) → Configuration ℕ RingCells → Bool → MachineState → ℕ → Option (List ℕ) → Option (List ℕ) → Option (List ℕ) → List ℕ → Type 0
-TurnEnds (Ok end) taken configuration fits new data_start left before now buffer =
-    IsAt (advance data_start configuration) (fits && counters_fit (advance data_start configuration)) new data_start left before now buffer
-TurnEnds (Err Read) taken configuration fits new data_start left before now buffer =
+-- no bytes wait where a byte was given by hand, and none where the run ended for want of input
+pub record MayWait (machine : MachineState) (buffer : List ℕ) : Type 0 where
+  pub by_hand : (machine.given ≡ None) ⊎ (buffer ≡ [])
+  pub ended : machine.ended ≡ Some InputEnded → buffer ≡ []
+
+-- after an instruction that took no byte, what it printed waits behind what waited
+pub record Adds (from to : Configuration ℕ RingCells) (buffer waiting : List ℕ) : Type 0 where
+  pub untaken : to.input ≡ from.input
+  pub printed : List ℕ
+  pub prints : to.printed ≡ from.printed ++ printed
+  pub waits : waiting ≡ buffer ++ printed
+
+-- after an instruction nothing waits, since all was written out, or it adds to what waited
+abbrev pub Follows : MachineState → Configuration ℕ RingCells → Configuration ℕ RingCells → List ℕ → List ℕ → Type 0
+Follows new from to buffer waiting = ((waiting ≡ []) ⊎ Adds from to buffer waiting) × MayWait new waiting
+
+-- an instruction adds to what waited, so that 512 bytes wait
+pub record Fills (new : MachineState) (from to : Configuration ℕ RingCells) (buffer : List ℕ) : Type 0 where
+  pub waiting : List ℕ
+  pub adds : Adds from to buffer waiting
+  pub full : length waiting ≡ 512
+  pub goes_on : new.ended ≡ Some InputEnded → ⊥
+
+-- a turn from this moment, which took such a byte, has come to the next one, or broke off: before it made its instruction, when it
+-- took none, or after it, when 512 bytes waited
+abbrev pub TurnEnds : Result (Option End) DriveError → Option (Option ℕ) → MachineState → List ℕ → Configuration ℕ RingCells → Bool → MachineState → ℕ → Option (List ℕ) → Option (List ℕ) → Option (List ℕ) → List ℕ → Type 0
+TurnEnds (Ok end) taken old buffer configuration fits new data_start left before now waiting =
+    IsAt (advance data_start configuration) (fits && counters_fit (advance data_start configuration)) new data_start left before now waiting
+    × (MayWait old buffer → Follows new configuration (advance data_start configuration) buffer waiting)
+TurnEnds (Err Read) taken old buffer configuration fits new data_start left before now waiting =
     IsAt configuration fits new data_start left before now []
-TurnEnds (Err Write) taken configuration fits new data_start left before now buffer =
-    ((taken ≡ None) × StandsWritten configuration fits new data_start left before now)
-    ⊎ StandsWritten (advance data_start configuration) (fits && counters_fit (advance data_start configuration)) new data_start left before now
+TurnEnds (Err Write) taken old buffer configuration fits new data_start left before now waiting =
+    ((taken ≡ None) × WantsAByte new × StandsWritten configuration fits new data_start left before now)
+    ⊎ (Fills new configuration (advance data_start configuration) buffer
+    × StandsWritten (advance data_start configuration) (fits && counters_fit (advance data_start configuration)) new data_start left before now)
+
+-- how often a turn asks the console: once where a read fails, or where it takes a byte that was not given by hand
+abbrev pub asks : Result (Option End) DriveError → Option (Option ℕ) → Option (Option ℕ) → ℕ
+asks (Err Read) given taken = 1
+asks result None (Some byte) = 1
+asks result given taken = 0
 
 -- a turn takes at most one byte, and makes its instruction from whatever moment the machine stands at
-pub record Turns (result : Result (Option End) DriveError) (old new : MachineState) (left after now later : Option (List ℕ)) (buffer waiting : List ℕ) : Type 0 where
+pub record Turns (result : Result (Option End) DriveError) (old new : MachineState) (left after now later : Option (List ℕ)) (buffer waiting : List ℕ) (calls_before calls_after : ℕ) : Type 0 where
   pub taken : Option (Option ℕ)
   pub takes : IsTaken old new taken left after
+  pub calls : calls_after ≤ calls_before + asks result old.given taken
   pub ends :
       (configuration : Configuration ℕ RingCells) (fits : Bool) (data_start : ℕ) (before input rest : Option (List ℕ)) → LeftAfter taken input rest →
-      IsAt configuration fits old data_start input before now buffer → TurnEnds result taken configuration fits new data_start rest before later waiting
+      IsAt configuration fits old data_start input before now buffer → TurnEnds result taken old buffer configuration fits new data_start rest before later waiting

@@ -1,10 +1,10 @@
 // Whole runs over a console and an output.
-ghost use Rattle.std.specs.Prelude.{ℕ, Bool, ◌&&◌, List, Option, ◌≡◌, ◌≤◌, ◌<◌, slice_get, length, [], ◌++◌, drop, option_map, OnOk, OnErr, IfSome, MatchResult, IfOk};
-ghost use Rattle.outside_io.specs.Causes.{Rose, HasCause};
+ghost use Rattle.std.specs.Prelude.{ℕ, Bool, ◌&&◌, List, Option, ◌≡◌, ◌⊎◌, ◌+◌, ◌≤◌, ◌<◌, slice_get, length, [], ◌++◌, drop, option_map, OnOk, OnErr, IfSome, MatchResult, IfOk};
+ghost use Rattle.outside_io.specs.Causes.{risen, Rose, HasCause};
 ghost use Rattle.j1_simulator.specs.Run.{Configuration};
 ghost use Rattle.j1_simulator.specs.RoundMachine.{RingCells};
 ghost use Rattle.j1_simulator.specs.MachineState.{WantsAByte};
-ghost use Rattle.j1_simulator.specs.Drive.{Holds, HoldsFront, IsAt, told, ended_by, given_after, IsDriven, IsBrokenOff, MadeAtMost, end_told, KeepsEnd};
+ghost use Rattle.j1_simulator.specs.Drive.{Holds, HoldsFront, HoldsAll, IsAt, told, ended_by, given_after, IsDriven, IsBrokenOff, MadeAtMost, end_told, KeepsEnd};
 ghost use Rattle.j1_simulator.specs.Turn.{Turns};
 
 use crate::buffers::Buffer;
@@ -17,6 +17,7 @@ fn ask<C: Source>(console: &mut C) -> Result<Option<u8>, DriveError>
     ensures byte { IfSome (C.left console.old) (λ input. MatchResult result (λ byte. (byte ≡ slice_get input 0) × (C.left console.new ≡ Some (drop 1 input))) (λ _. C.left console.new ≡ Some input)) }
     ensures err { OnErr result (result ≡ Err DriveError.Read) }
     ensures cause { HasCause (C.faults console.old) (C.faults console.new) result }
+    ensures calls { C.calls console.new ≡ risen (C.calls console.old) }
 {
     let mut buf = [0u8; 1];
     match console.read(&mut buf) {
@@ -40,6 +41,9 @@ fn note<O: Sink>(event: Event, buffer: &mut Buffer, out: &mut O) -> Result<Optio
         OnOk result (Holds before (O.held out.new) buffer.new printed) }
     ensures front { (before : Option (List ℕ)) (printed : List ℕ) → Holds before (O.held out.old) (buffer.old ++ told event) printed →
         OnErr result (HoldsFront before (O.held out.new) printed) }
+    ensures grows { HoldsAll (O.held out.old) (O.held out.new) [] }
+    ensures waits { OnOk result ((buffer.new ≡ []) ⊎ (buffer.new ≡ buffer.old ++ told event)) }
+    ensures full { OnErr result ((length (buffer.old ++ told event) ≡ 512) × (told event ≡ [] → ⊥)) }
 {
     match event {
         Event::Went => Ok(None),
@@ -70,6 +74,7 @@ fn turn<C: Source, O: Sink>(
     ensures write_cause { result ≡ Err DriveError.Write → Rose (O.faults out.old) (O.faults out.new) }
     ensures console_faults { C.faults console.old ≤ C.faults console.new }
     ensures out_faults { O.faults out.old ≤ O.faults out.new }
+    ensures calls { C.calls console.new ≤ C.calls console.old + 1 }
 
     ensures ended { IfOk result (λ end. end ≡ machine.new.ended) }
     ensures over { KeepsEnd machine.old machine.new }
@@ -79,7 +84,8 @@ fn turn<C: Source, O: Sink>(
     ensures given { machine.new.given ≡ None }
     ensures quiet { (WantsAByte machine.old → ⊥) → console.new ≡ console.old }
 
-    ensures run { Turns result machine.old machine.new (C.left console.old) (C.left console.new) (O.held out.old) (O.held out.new) buffer.old buffer.new }
+    ensures grows { HoldsAll (O.held out.old) (O.held out.new) [] }
+    ensures run { Turns result machine.old machine.new (C.left console.old) (C.left console.new) (O.held out.old) (O.held out.new) buffer.old buffer.new (C.calls console.old) (C.calls console.new) }
 {
     match machine.step() {
         Event::WantsByte => {
@@ -99,8 +105,9 @@ fn turn<C: Source, O: Sink>(
 /// now or before, the answer is its end at each `n`; `StepsUsed` comes exactly where it has not.
 ///
 /// An error comes only where the count of faults of `console` or of `out` rose. After `Read` the machine still wants its
-/// byte, and all that was printed has been written. After `Write` the machine and the console stand after
-/// some of the instructions, and `out` holds a beginning of what these printed.
+/// byte, and all that was printed has been written. After `Write` the machine and the console stand where that write was
+/// due, and `out` holds a beginning of what was printed: it lacks at most the 512 bytes that were written last, of which none
+/// had been printed when the console was last asked.
 ///
 /// The input of the run is the byte given by hand, where there is one that is not yet used, and then the bytes of the console;
 /// where it was told by hand that there is none left, it is empty, and the console is left alone. The clauses `run`, `read`
@@ -114,7 +121,7 @@ pub fn drive<C: Source, O: Sink>(
     // The machine, the input left and the output are those of the run after n instructions.
     ensures run { IfSome (C.left console.old) (λ bytes.
         OnOk result (IsDriven machine.old n bytes machine.new (C.left console.new) (O.held out.old) (O.held out.new) [])) }
-    ensures at_most { MadeAtMost n result machine.old machine.new (O.held out.old) (O.held out.new) }
+    ensures at_most { MadeAtMost n result machine.old machine.new (C.left console.old) (C.left console.new) (O.held out.old) (O.held out.new) (C.calls console.old) (C.calls console.new) }
     // The first instruction uses what was given by hand.
     ensures given { machine.new.given ≡ given_after n machine.old.given }
     ensures by_hand { machine.old.given ≡ Some None → console.new ≡ console.old }
@@ -127,11 +134,13 @@ pub fn drive<C: Source, O: Sink>(
     ensures write_cause { result ≡ Err DriveError.Write → Rose (O.faults out.old) (O.faults out.new) }
     ensures console_faults { C.faults console.old ≤ C.faults console.new }
     ensures out_faults { O.faults out.old ≤ O.faults out.new }
+    // The console is asked at most once for each instruction.
+    ensures calls { C.calls console.new ≤ C.calls console.old + n }
 
     ensures read { IfSome (C.left console.old) (λ bytes. result ≡ Err DriveError.Read →
         (k : ℕ) × (k < n) × IsDriven machine.old k bytes machine.new (C.left console.new) (O.held out.old) (O.held out.new) []) }
     ensures write { IfSome (C.left console.old) (λ bytes. result ≡ Err DriveError.Write →
-        (k : ℕ) × (k ≤ n) × IsBrokenOff machine.old k bytes machine.new (C.left console.new) (O.held out.old) (O.held out.new)) }
+        IsBrokenOff n machine.old bytes machine.new (C.left console.new) (O.held out.old) (O.held out.new)) }
 {
     let mut buffer = Buffer::new();
     for _made in 0..n {

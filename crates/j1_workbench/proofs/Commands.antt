@@ -12,7 +12,7 @@ use Rattle.j1_workbench.specs.declared.status.Status.TheVariants.{BadWords, OutO
 use Rattle.j1_workbench.specs.declared.answer.Answer.{Answer}
 use Rattle.j1_workbench.specs.Words.{Request, Run, Build, Execute, ListImage, Assemble, Certify, Evaluate, Forth, Make, steps_allowed}
 use Rattle.j1_workbench.specs.Notes.{named}
-use Rattle.j1_workbench.specs.Surroundings.{FolderState, Surroundings, IsOnlyRead}
+use Rattle.j1_workbench.specs.Surroundings.{FolderState, Surroundings, IsReadOnce}
 use Rattle.j1_workbench.specs.Sources.{IsRefusedSource, IsCertifiedSource}
 use Rattle.j1_workbench.specs.Headline.{image_of, TextsAreBuilt, CertifiedTextsAgree}
 use Rattle.j1_workbench.specs.Running.{Drives, Runs}
@@ -26,17 +26,17 @@ built laws source before program certificate found = laws found.0 program found.
 -- ---- run
 
 pub run_refused : (source : List ℕ) (steps : ℕ) (before after : Surroundings) (status : Status) (name : List ℕ) →
-    IsOnlyRead before.folder after.folder → IsRefusedSource source before.folder after.folder status name → after.console ≡ before.console → after.out ≡ before.out → Runs source steps before after status name
+    IsReadOnce before.folder after.folder → IsRefusedSource source before.folder after.folder status name → after.console ≡ before.console → after.out ≡ before.out → Runs source steps before after status name
 unfolding Runs
 run_refused source steps before after status name read refused console out = (read, inl (refused, (console, out)))
 
 pub run_without_memory : (source : List ℕ) (steps : ℕ) (before after : Surroundings) (name : List ℕ) →
-    IsOnlyRead before.folder after.folder → after.console ≡ before.console → after.out ≡ before.out → Runs source steps before after OutOfMemory name
+    IsReadOnce before.folder after.folder → after.console ≡ before.console → after.out ≡ before.out → Runs source steps before after OutOfMemory name
 unfolding Runs
 run_without_memory source steps before after name read console out = (read, inl (tt, (console, out)))
 
 pub run_driven : (source : List ℕ) (steps : ℕ) (before after : Surroundings) (status : Status) (answer : Answer) (program : SourceProgram) (certificate : Cert) (image : Content) →
-    answer ≡ record { status = status; name = None } → CertifiedTextsAgree → IsOnlyRead before.folder after.folder → IsCertifiedSource source before.folder program certificate → image ≡ image_of program →
+    answer ≡ record { status = status; name = None } → CertifiedTextsAgree → IsReadOnce before.folder after.folder → IsCertifiedSource source before.folder program certificate → image ≡ image_of program →
     Drives image steps before.console after.console before.out after.out status → Runs source steps before after answer.status (named answer.name)
 unfolding Runs
 run_driven source steps before after status answer program certificate image is laws read found laid drives =
@@ -54,17 +54,17 @@ run_driven source steps before after status answer program certificate image is 
 -- ---- certify
 
 pub certify_refused : (source : List ℕ) (before after : Surroundings) (status : Status) (name : List ℕ) →
-    IsOnlyRead before.folder after.folder → IsRefusedSource source before.folder after.folder status name → after.console ≡ before.console → after.out ≡ before.out → Certifies source before after status name
+    IsReadOnce before.folder after.folder → IsRefusedSource source before.folder after.folder status name → after.console ≡ before.console → after.out ≡ before.out → Certifies source before after status name
 unfolding Certifies
 certify_refused source before after status name read refused console out = (read, console, inl (refused, out))
 
 pub certify_without_memory : (source : List ℕ) (before after : Surroundings) (name : List ℕ) →
-    IsOnlyRead before.folder after.folder → after.console ≡ before.console → after.out ≡ before.out → Certifies source before after OutOfMemory name
+    IsReadOnce before.folder after.folder → after.console ≡ before.console → after.out ≡ before.out → Certifies source before after OutOfMemory name
 unfolding Certifies
 certify_without_memory source before after name read console out = (read, console, inl (tt, out))
 
 pub certify_written : (source : List ℕ) (before after : Surroundings) (status : Status) (name text : List ℕ) (program : SourceProgram) (certificate : Cert) →
-    IsOnlyRead before.folder after.folder → IsCertifiedSource source before.folder program certificate → after.console ≡ before.console → text ≡ certificate_text program certificate →
+    IsReadOnce before.folder after.folder → IsCertifiedSource source before.folder program certificate → after.console ≡ before.console → text ≡ certificate_text program certificate →
     Writes before.out after.out text status → Certifies source before after status name
 unfolding Certifies
 certify_written source before after status name text program certificate read found console same writes = (

@@ -1,6 +1,6 @@
 -- What a drive from the start leaves, as the status tells it.
-use Rattle.std.proofs.Common.{◌≡◌, ◌⊎◌, inl, inr, ℕ, zero, suc, ◌<◌, ◌≤◌, List, [], ◌++◌, Bool, refl, sym, ap, ◌∙◌, subst, arith}
-use Rattle.std.specs.Prelude.{Option, Some, None, Result, Ok, Err, IfSome, IfOk, OnOk}
+use Rattle.std.proofs.Common.{◌≡◌, ◌⊎◌, inl, inr, ℕ, zero, suc, ◌+◌, ◌<◌, ◌≤◌, List, [], ◌++◌, length, Bool, refl, sym, ap, ◌∙◌, subst, arith}
+use Rattle.std.specs.Prelude.{Option, Some, None, option_map, Result, Ok, Err, IfSome, IfOk, OnOk}
 use Rattle.std.specs.Io.KnownBytes.{Appends}
 use Rattle.std.proofs.lemmas.List.{append-nil}
 use Rattle.j1_table.specs.Image.{Content}
@@ -11,16 +11,17 @@ use Rattle.j1_simulator.specs.declared.ends.Finish.TheVariants.{Ended, StepsUsed
 use Rattle.j1_simulator.specs.declared.ends.DriveError.{DriveError}
 use Rattle.j1_simulator.specs.declared.ends.DriveError.TheVariants.{Read, Write}
 use Rattle.j1_simulator.specs.MachineState.{MachineState, WantsAByte, IsTaking, started}
-use Rattle.j1_simulator.specs.Step.{step}
+use Rattle.j1_simulator.specs.Step.{By, step}
 use Rattle.outside_io.specs.Causes.{Rose}
 use Rattle.j1_simulator.specs.Run.{round_run}
 use Rattle.j1_simulator.specs.RoundMachine.{round_storage}
-use Rattle.j1_simulator.specs.Drive.{Holds, IsAt, IsDriven, IsBrokenOff, end_told}
+use Rattle.j1_simulator.specs.Drive.{Holds, StandsAt, IsAt, driven, going_on, left_of, IsDriven, IsBrokenOff, MadeAtMost, in_vain as asked_in_vain, end_told}
+use Rattle.j1_simulator.specs.Laws.{OnlyGrows}
 use Rattle.j1_workbench.specs.declared.status.Status.{Status}
 use Rattle.j1_workbench.specs.declared.status.Status.TheVariants.{Done, BadWords, Missing, SourceRefused, NotCertified, StepsUsed as OutOfSteps, InputEnded, Outside, Halted, ReadFault, WriteFault, OutOfMemory, TooLarge, NotYet}
 use Rattle.j1_workbench.specs.Statuses.{status_of, halted_status}
 use Rattle.j1_workbench.specs.Surroundings.{Stream}
-use Rattle.j1_workbench.specs.Running.{IsRunAnswer, RanAs, DriveLeaves, Drives, status_after}
+use Rattle.j1_workbench.specs.Running.{IsRunAnswer, RanAs, DriveLeaves, in_vain, Gave, Drives, status_after}
 
 -- where nothing waits in the buffer, all that was printed stands in out
 all_written : (before now : Option (List ℕ)) (printed : List ℕ) → Holds before now [] printed → Appends before now printed
@@ -71,13 +72,13 @@ ReadSays steps machine after result left_now before now bytes =
 
 abbrev pub WriteSays : ℕ → MachineState → MachineState → Result Finish DriveError → Option (List ℕ) → Option (List ℕ) → Option (List ℕ) → List ℕ → Type 0
 WriteSays steps machine after result left_now before now bytes =
-    result ≡ Err Write → (k : ℕ) × (k ≤ steps) × IsBrokenOff machine k bytes after left_now before now
+    result ≡ Err Write → IsBrokenOff steps machine bytes after left_now before now
 
 -- the next instruction takes a byte
-due_there : (image : Content) (input : List ℕ) (k : ℕ) (after : MachineState) (left before now : Option (List ℕ)) → IsDriven (started image) k input after left before now [] → WantsAByte after → IsTaking (step round_storage image.data_start (round_run image input k).core)
-due_there image input k after left before now at wants =
-    subst (λ d. IsTaking (step round_storage d (round_run image input k).core)) at.stands.start_is
-    (subst (λ c. IsTaking (step round_storage after.data_start c)) at.stands.core wants.taking)
+due_there : (image : Content) (input : List ℕ) (k : ℕ) (fits : Bool) (after : MachineState) → StandsAt (round_run image input k) fits after image.data_start → WantsAByte after → IsTaking (step round_storage image.data_start (round_run image input k).core)
+due_there image input k fits after stands wants =
+    subst (λ d. IsTaking (step round_storage d (round_run image input k).core)) stands.start_is
+    (subst (λ c. IsTaking (step round_storage after.data_start c)) stands.core wants.taking)
 
 leaves : (image : Content) (input : List ℕ) (steps : ℕ) (after : MachineState) (result : Result Finish DriveError) (left before now : Option (List ℕ)) →
     OkSays steps (started image) after result left before now input → ReadSays steps (started image) after result left before now input → WriteSays steps (started image) after result left before now input →
@@ -88,10 +89,10 @@ leaves image input steps after (Ok StepsUsed) left before now at read write same
     (tt, ran image input steps _ after None OutOfSteps left before now at same refl)
 leaves image input steps after (Err Read) left before now at read write same wants =
     let told = read refl in
-    record { made = told.0; within = omega arith; left_is = told.2.left_is; printed = all_written before now _ told.2.out; due = due_there image input told.0 after left before now told.2 (wants refl) }
+    record { made = told.0; within = omega arith; left_is = told.2.left_is; printed = all_written before now _ told.2.out; due = due_there image input told.0 _ after told.2.stands (wants refl) }
 leaves image input steps after (Err Write) left before now at read write same wants =
     let told = write refl in
-    record { made = told.0; within = told.1; left_is = told.2.left_is; front = told.2.front }
+    record { made = told.made; within = told.within; left_is = told.stands.left_is; front = told.stands.front; lacks = told.lacks }
 
 answer_of : (result : Result Finish DriveError) → (status_after result ≡ ReadFault) ⊎ ((status_after result ≡ WriteFault) ⊎ IsRunAnswer (status_after result))
 answer_of (Ok (Ended end)) = inr (inr (end_is_answer (Some end)))
@@ -114,17 +115,86 @@ write_failed (Ok StepsUsed) same = cc
 write_failed (Err Read) same = cc
 write_failed (Err Write) same = refl
 
+-- ---- what the drive leaves on the bytes that the console gave
+
+-- what holds after some instructions of a run that has ended holds after more
+ended_later : OnlyGrows round_storage → (image : Content) (bytes : List ℕ) (made steps : ℕ) (fits : Bool) (after : MachineState) (end : End) → made ≤ steps → StandsAt (round_run image bytes made) fits after image.data_start → Some end ≡ after.ended → round_run image bytes steps ≡ round_run image bytes made
+ended_later grows image bytes made steps fits after end le stands told =
+    grows.ends image.data_start made steps (going_on (started image) bytes) (By end) le (sym stands.ended ∙ ap (option_map By) (sym told))
+
+gave_leaves : OnlyGrows round_storage → (image : Content) (steps : ℕ) (after : MachineState) (result : Result Finish DriveError) (left before_left before now : Option (List ℕ)) (calls calls_now : ℕ) → (m : MadeAtMost steps result (started image) after before_left left before now calls calls_now) →
+    IfOk result (λ finish. end_told finish ≡ after.ended) → (result ≡ Err Read → WantsAByte after) → DriveLeaves image m.bytes steps (status_after result) (Some []) before now
+gave_leaves grows image steps after (Ok (Ended end)) left before_left before now calls calls_now m same wants =
+    let later : round_run image m.bytes steps ≡ round_run image m.bytes m.made = ended_later grows image m.bytes m.made steps _ after end m.within m.stands same in
+    let at : RanAs image m.bytes steps (status_of (Some end)) (Some []) before now = record {
+      end = Some end;
+      end_is = ap (option_map By) same ∙ m.stands.ended ∙ ap (λ c. c.stop) (sym later);
+      status_is = refl;
+      left_is = m.used ∙ ap (λ c. Some c.input) (sym later);
+      printed = subst (λ c. Appends before now c.printed) (sym later) (all_written before now _ (m.written (λ e. cc)));
+    } in
+    as_run image m.bytes steps (status_of (Some end)) (Some []) before now (end_is_answer (Some end)) at
+gave_leaves grows image steps after (Ok StepsUsed) left before_left before now calls calls_now m same wants =
+    let whole : m.made ≡ steps = m.all refl in
+    let at : RanAs image m.bytes m.made OutOfSteps (Some []) before now = record {
+      end = None;
+      end_is = ap (option_map By) same ∙ m.stands.ended;
+      status_is = refl;
+      left_is = m.used;
+      printed = all_written before now _ (m.written (λ e. cc));
+    } in (tt, subst (λ n. RanAs image m.bytes n OutOfSteps (Some []) before now) whole at)
+gave_leaves grows image steps after (Err Read) left before_left before now calls calls_now m same wants = record {
+  made = m.made;
+  within = m.within;
+  left_is = m.used;
+  printed = all_written before now _ (m.written (λ e. cc));
+  due = due_there image m.bytes m.made _ after m.stands (wants refl);
+}
+gave_leaves grows image steps after (Err Write) left before_left before now calls calls_now m same wants = record {
+  made = m.made;
+  within = m.within;
+  left_is = m.used;
+  front = m.front;
+  lacks = m.lacks refl;
+}
+
+halted_in_vain : (status : ℕ) → 0 ≤ in_vain (halted_status status)
+halted_in_vain status = omega arith
+
+vain_as_told : (result : Result Finish DriveError) (end : Option End) → IfOk result (λ finish. end_told finish ≡ end) → asked_in_vain result end ≤ in_vain (status_after result)
+vain_as_told (Ok (Ended ends.InputEnded)) end same = subst (λ e. asked_in_vain (Ok (Ended ends.InputEnded)) e ≤ 1) same (omega arith)
+vain_as_told (Ok (Ended (ends.Outside address))) end same = subst (λ e. asked_in_vain (Ok (Ended (ends.Outside address))) e ≤ 0) same (omega arith)
+vain_as_told (Ok (Ended (ends.Halted status))) end same = subst (λ e. asked_in_vain (Ok (Ended (ends.Halted status))) e ≤ in_vain (halted_status status)) same (omega arith)
+vain_as_told (Ok StepsUsed) end same = subst (λ e. asked_in_vain (Ok StepsUsed) e ≤ 0) same (omega arith)
+vain_as_told (Err Read) end same = omega arith
+vain_as_told (Err Write) None same = omega arith
+vain_as_told (Err Write) (Some ends.InputEnded) same = omega arith
+vain_as_told (Err Write) (Some (ends.Outside address)) same = omega arith
+vain_as_told (Err Write) (Some (ends.Halted status)) same = omega arith
+
+gave : OnlyGrows round_storage → (image : Content) (steps : ℕ) (after : MachineState) (result : Result Finish DriveError) (console_before console_after out_before out_after : Stream) → MadeAtMost steps result (started image) after console_before.bytes console_after.bytes out_before.bytes out_after.bytes console_before.calls console_after.calls →
+    IfOk result (λ finish. end_told finish ≡ after.ended) → (result ≡ Err Read → WantsAByte after) → Gave image steps console_before console_after out_before out_after (status_after result)
+gave grows image steps after result console_before console_after out_before out_after m same wants =
+    let most = vain_as_told result after.ended same in
+    record {
+      bytes = m.bytes;
+      took = m.took;
+      leaves = gave_leaves grows image steps after result console_after.bytes console_before.bytes out_before.bytes out_after.bytes console_before.calls console_after.calls m same wants;
+      calls = omega (arith, m.calls, most);
+    }
+
 -- a drive from the start, over a console that may tell its bytes
-pub drives : (image : Content) (steps : ℕ) (machine after : MachineState) (result : Result Finish DriveError) (status : Status) (console_before console_after out_before out_after : Stream) →
+pub drives : OnlyGrows round_storage → (image : Content) (steps : ℕ) (machine after : MachineState) (result : Result Finish DriveError) (status : Status) (console_before console_after out_before out_after : Stream) →
     machine ≡ started image →
     IfSome console_before.bytes (OkSays steps machine after result console_after.bytes out_before.bytes out_after.bytes) →
     IfSome console_before.bytes (ReadSays steps machine after result console_after.bytes out_before.bytes out_after.bytes) →
     IfSome console_before.bytes (WriteSays steps machine after result console_after.bytes out_before.bytes out_after.bytes) →
+    MadeAtMost steps result machine after console_before.bytes console_after.bytes out_before.bytes out_after.bytes console_before.calls console_after.calls → console_after.calls ≤ console_before.calls + steps →
     IfOk result (λ finish. end_told finish ≡ after.ended) → (result ≡ Err Read → WantsAByte after) → status ≡ status_after result →
     (result ≡ Err Read → Rose console_before.faults console_after.faults) → (result ≡ Err Write → Rose out_before.faults out_after.faults) →
     console_before.faults ≤ console_after.faults → out_before.faults ≤ out_after.faults →
     Drives image steps console_before console_after out_before out_after status
-drives image steps machine after result status console_before console_after out_before out_after begins run read write same wants is read_cause write_cause console_later out_later = record {
+drives grows image steps machine after result status console_before console_after out_before out_after begins run read write made calls same wants is read_cause write_cause console_later out_later = record {
   answered = subst (λ s. (s ≡ ReadFault) ⊎ ((s ≡ WriteFault) ⊎ IsRunAnswer s)) (sym is) (answer_of result);
   leaves = λ input told.
       let at = subst (λ b. IfSome b (OkSays steps machine after result console_after.bytes out_before.bytes out_after.bytes)) told run in
@@ -136,6 +206,9 @@ drives image steps machine after result status console_before console_after out_
       (subst (λ m. ReadSays steps m after result console_after.bytes out_before.bytes out_after.bytes input) begins failed)
       (subst (λ m. WriteSays steps m after result console_after.bytes out_before.bytes out_after.bytes input) begins broken)
       same wants);
+  gave = subst (λ s. Gave image steps console_before console_after out_before out_after s) (sym is)
+      (gave grows image steps after result console_before console_after out_before out_after (subst (λ m. MadeAtMost steps result m after console_before.bytes console_after.bytes out_before.bytes out_after.bytes console_before.calls console_after.calls) begins made) same wants);
+  calls = calls;
   read_fault = λ fault. read_cause (read_failed result (sym is ∙ fault));
   write_fault = λ fault. write_cause (write_failed result (sym is ∙ fault));
   console_faults = console_later;

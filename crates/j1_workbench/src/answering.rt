@@ -33,10 +33,10 @@ pub fn answer<F: Folder, C: Source, O: Sink>(
     console: &mut C,
     out: &mut O,
 ) -> Answer
-    ensures { let before = surroundings (folder (F.files files.old) (F.read_faults files.old) (F.write_faults files.old) (F.absences files.old))
-        (stream (C.left console.old) (C.faults console.old)) (stream (O.held out.old) (O.faults out.old)) in
-        let after = surroundings (folder (F.files files.new) (F.read_faults files.new) (F.write_faults files.new) (F.absences files.new))
-        (stream (C.left console.new) (C.faults console.new)) (stream (O.held out.new) (O.faults out.new)) in
+    ensures { let before = surroundings (folder (F.files files.old) (F.calls files.old) (F.read_faults files.old) (F.write_faults files.old) (F.absences files.old))
+        (stream (C.left console.old) (C.calls console.old) (C.faults console.old)) (stream (O.held out.old) (O.calls out.old) (O.faults out.old)) in
+        let after = surroundings (folder (F.files files.new) (F.calls files.new) (F.read_faults files.new) (F.write_faults files.new) (F.absences files.new))
+        (stream (C.left console.new) (C.calls console.new) (C.faults console.new)) (stream (O.held out.new) (O.calls out.new) (O.faults out.new)) in
         Does (asked words.now) before after result.status (named result.name) }
 {
     match command_of(words) {

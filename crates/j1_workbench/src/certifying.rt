@@ -13,7 +13,7 @@ use std::alloc::{AllocError, Global};
 
 // Writes a text to out.
 fn write_text<O: Sink>(text: &[u8], out: &mut O) -> Status
-    ensures { Writes (stream (O.held out.old) (O.faults out.old)) (stream (O.held out.new) (O.faults out.new)) text.now result }
+    ensures { Writes (stream (O.held out.old) (O.calls out.old) (O.faults out.old)) (stream (O.held out.new) (O.calls out.new) (O.faults out.new)) text.now result }
 {
     match out.write(text) {
         Ok(()) => Status::Done,
@@ -30,10 +30,10 @@ pub fn certify<F: Folder, O: Sink>(
     out: &mut O,
 ) -> Answer
     ensures { (console : Stream) →
-        let before = surroundings (folder (F.files files.old) (F.read_faults files.old) (F.write_faults files.old) (F.absences files.old))
-        console (stream (O.held out.old) (O.faults out.old)) in
-        let after = surroundings (folder (F.files files.new) (F.read_faults files.new) (F.write_faults files.new) (F.absences files.new))
-        console (stream (O.held out.new) (O.faults out.new)) in
+        let before = surroundings (folder (F.files files.old) (F.calls files.old) (F.read_faults files.old) (F.write_faults files.old) (F.absences files.old))
+        console (stream (O.held out.old) (O.calls out.old) (O.faults out.old)) in
+        let after = surroundings (folder (F.files files.new) (F.calls files.new) (F.read_faults files.new) (F.write_faults files.new) (F.absences files.new))
+        console (stream (O.held out.new) (O.calls out.new) (O.faults out.new)) in
         Certifies source.now before after result.status (named result.name) }
 {
     let (program, certificate) = match certified_source(alloc, source, files) {

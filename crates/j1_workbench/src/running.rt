@@ -10,7 +10,7 @@ use crate::laws::{certified_texts_agree, texts_are_built};
 use crate::source::certified_source;
 use crate::status::Status;
 use forth_library::linked_image;
-use j1_simulator::{DriveError, End, Finish, Machine, drive};
+use j1_simulator::{DriveError, End, Finish, Machine, drive, runs_only_grow};
 use j1_table::Image;
 use outside_io::{Folder, Sink, Source};
 use std::alloc::{AllocError, Global};
@@ -47,13 +47,14 @@ fn run_image<C: Source, O: Sink>(
     console: &mut C,
     out: &mut O,
 ) -> Result<Status, AllocError>
-    ensures { let console_before = stream (C.left console.old) (C.faults console.old) in
-        let console_after = stream (C.left console.new) (C.faults console.new) in
-        let out_before = stream (O.held out.old) (O.faults out.old) in
-        let out_after = stream (O.held out.new) (O.faults out.new) in
+    ensures { let console_before = stream (C.left console.old) (C.calls console.old) (C.faults console.old) in
+        let console_after = stream (C.left console.new) (C.calls console.new) (C.faults console.new) in
+        let out_before = stream (O.held out.old) (O.calls out.old) (O.faults out.old) in
+        let out_after = stream (O.held out.new) (O.calls out.new) (O.faults out.new) in
         MatchResult result (λ status. Drives image.now steps console_before console_after out_before out_after status)
         (λ error. (console_after ≡ console_before) × (out_after ≡ out_before)) }
 {
+    runs_only_grow();
     let mut machine = Machine::new(alloc, image)?;
     Ok(status_after(drive(&mut machine, steps, console, out)))
 }
@@ -68,10 +69,10 @@ pub fn run<F: Folder, C: Source, O: Sink>(
     console: &mut C,
     out: &mut O,
 ) -> Answer
-    ensures { let before = surroundings (folder (F.files files.old) (F.read_faults files.old) (F.write_faults files.old) (F.absences files.old))
-        (stream (C.left console.old) (C.faults console.old)) (stream (O.held out.old) (O.faults out.old)) in
-        let after = surroundings (folder (F.files files.new) (F.read_faults files.new) (F.write_faults files.new) (F.absences files.new))
-        (stream (C.left console.new) (C.faults console.new)) (stream (O.held out.new) (O.faults out.new)) in
+    ensures { let before = surroundings (folder (F.files files.old) (F.calls files.old) (F.read_faults files.old) (F.write_faults files.old) (F.absences files.old))
+        (stream (C.left console.old) (C.calls console.old) (C.faults console.old)) (stream (O.held out.old) (O.calls out.old) (O.faults out.old)) in
+        let after = surroundings (folder (F.files files.new) (F.calls files.new) (F.read_faults files.new) (F.write_faults files.new) (F.absences files.new))
+        (stream (C.left console.new) (C.calls console.new) (C.faults console.new)) (stream (O.held out.new) (O.calls out.new) (O.faults out.new)) in
         Runs source.now steps before after result.status (named result.name) }
 {
     texts_are_built();

@@ -1,7 +1,7 @@
 // Source files with a certificate.
 ghost use Rattle.std.specs.Prelude.{◌≡◌, ◌⊎◌, MatchResult};
 ghost use Rattle.j1_workbench.specs.Notes.{named};
-ghost use Rattle.j1_workbench.specs.Surroundings.{folder, IsOnlyRead};
+ghost use Rattle.j1_workbench.specs.Surroundings.{folder, IsReadOnce};
 ghost use Rattle.j1_workbench.specs.Sources.{IsCertified, IsCertifiedSource, IsRefusedText, IsRefusedSource};
 
 use crate::answer::{Answer, answered};
@@ -51,11 +51,11 @@ pub fn certified_source<F: Folder>(
     source: &str,
     files: &mut F,
 ) -> Result<(Program, Certificate), Answer>
-    ensures read { let before = folder (F.files files.old) (F.read_faults files.old) (F.write_faults files.old) (F.absences files.old) in
-        let after = folder (F.files files.new) (F.read_faults files.new) (F.write_faults files.new) (F.absences files.new) in
-        IsOnlyRead before after }
-    ensures found { let before = folder (F.files files.old) (F.read_faults files.old) (F.write_faults files.old) (F.absences files.old) in
-        let after = folder (F.files files.new) (F.read_faults files.new) (F.write_faults files.new) (F.absences files.new) in
+    ensures read { let before = folder (F.files files.old) (F.calls files.old) (F.read_faults files.old) (F.write_faults files.old) (F.absences files.old) in
+        let after = folder (F.files files.new) (F.calls files.new) (F.read_faults files.new) (F.write_faults files.new) (F.absences files.new) in
+        IsReadOnce before after }
+    ensures found { let before = folder (F.files files.old) (F.calls files.old) (F.read_faults files.old) (F.write_faults files.old) (F.absences files.old) in
+        let after = folder (F.files files.new) (F.calls files.new) (F.read_faults files.new) (F.write_faults files.new) (F.absences files.new) in
         MatchResult result (λ found. IsCertifiedSource source.now before found.0 found.1) (λ answer. IsRefusedSource source.now before after answer.status (named answer.name)) }
 {
     match files.read(alloc, source, MOST_SOURCE + 1) {

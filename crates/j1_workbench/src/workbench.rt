@@ -25,11 +25,11 @@ pub fn workbench<F: Folder, C: Source, O: Sink, N: Sink>(
     notes: &mut N,
 ) -> Status
     // What each command does, by `Does`: a line a command; and its note.
-    ensures answers { let before = surroundings (folder (F.files files.old) (F.read_faults files.old) (F.write_faults files.old) (F.absences files.old))
-        (stream (C.left console.old) (C.faults console.old)) (stream (O.held out.old) (O.faults out.old)) in
-        let after = surroundings (folder (F.files files.new) (F.read_faults files.new) (F.write_faults files.new) (F.absences files.new))
-        (stream (C.left console.new) (C.faults console.new)) (stream (O.held out.new) (O.faults out.new)) in
-        Answers (map string_bytes words.now) before after (stream (N.held notes.old) (N.faults notes.old)) (stream (N.held notes.new) (N.faults notes.new)) result }
+    ensures answers { let before = surroundings (folder (F.files files.old) (F.calls files.old) (F.read_faults files.old) (F.write_faults files.old) (F.absences files.old))
+        (stream (C.left console.old) (C.calls console.old) (C.faults console.old)) (stream (O.held out.old) (O.calls out.old) (O.faults out.old)) in
+        let after = surroundings (folder (F.files files.new) (F.calls files.new) (F.read_faults files.new) (F.write_faults files.new) (F.absences files.new))
+        (stream (C.left console.new) (C.calls console.new) (C.faults console.new)) (stream (O.held out.new) (O.calls out.new) (O.faults out.new)) in
+        Answers (map string_bytes words.now) before after (stream (N.held notes.old) (N.calls notes.old) (N.faults notes.old)) (stream (N.held notes.new) (N.calls notes.new) (N.faults notes.new)) result }
     // Where nothing failed, each source has its one answer.
     ensures complete { AnswersAreComplete }
 {

@@ -53,8 +53,14 @@ folder_code =
     })
     (λ _. refl)
 
+-- the counts of a stream of the system
+pub record StreamCounts : Type 0 where
+  pub calls : ℕ
+  pub faults : ℕ
+
 -- the counts of a folder of the system
 pub record FolderCounts : Type 0 where
+  pub calls : ℕ
   pub read_faults : ℕ
   pub write_faults : ℕ
   pub absences : ℕ

@@ -76,6 +76,8 @@ impl MemSource {
 impl Source for MemSource {
     ghost left = { λ s. Some s.left };
 
+    ghost calls = { λ s. s.calls };
+
     ghost faults = { λ s. s.faults };
 
     /// Fails exactly where the number of the call is listed, and else moves all that `buf` has room
@@ -83,6 +85,7 @@ impl Source for MemSource {
     fn read(&mut self, buf: &mut [u8]) -> Result<usize, Failed>
         ensures bound { ReadsAtMost result buf.new }
         ensures bytes { ReadConsumes (Some self.old.left) (Some self.new.left) result buf.new }
+        ensures calls { self.new.calls ≡ risen self.old.calls }
         ensures cause { HasCause self.old.faults self.new.faults result }
 
         ensures failing { IsErr result ↔ IsFailing self.old.calls self.old.fails }
@@ -164,12 +167,15 @@ impl MemSink {
 impl Sink for MemSink {
     ghost held = { λ s. Some s.held };
 
+    ghost calls = { λ s. s.calls };
+
     ghost faults = { λ s. s.faults };
 
     /// Fails exactly where the bytes go past the room or the number of the call is listed, and
     /// then appends nothing. It takes no memory.
     fn write(&mut self, bytes: &[u8]) -> Result<(), Failed>
         ensures bytes { WritesAll (Some self.old.held) (Some self.new.held) result bytes.now }
+        ensures calls { self.new.calls ≡ risen self.old.calls }
         ensures cause { HasCause self.old.faults self.new.faults result }
 
         ensures failing { IsErr result

@@ -120,18 +120,20 @@ impl MemFolder {
 impl Folder for MemFolder {
     ghost files = { λ f. Some (get f.files) };
 
+    ghost calls = { λ f. f.calls };
+
     ghost read_faults = { λ f. f.read_faults };
 
     ghost write_faults = { λ f. f.write_faults };
 
     ghost absences = { λ f. f.absences };
 
-    /// Fails exactly where the number of the call is listed. Want of memory leaves the folder as it
-    /// was, with that number still to come.
+    /// Fails exactly where the number of the call is listed.
     fn read(&mut self, alloc: Global, name: &str, most: usize) -> Result<Vec<u8>, FileFault>
         ensures bound { IfOk result (λ bytes. vec_len bytes ≤ most) }
         ensures bytes { IfOk result (λ bytes.
             HasFront (Some (get self.old.files)) name.now most bytes.items) }
+        ensures calls { self.new.calls ≡ risen self.old.calls }
         ensures read_faults { self.old.read_faults ≤ self.new.read_faults }
         ensures absences { self.old.absences ≤ self.new.absences }
         ensures absent_lacks { result ≡ Err FileFault.Absent
@@ -149,37 +151,35 @@ impl Folder for MemFolder {
           calls = risen self.old.calls;
           absences = risen self.old.absences;
         } }
-        ensures no_memory { result ≡ Err FileFault.OutOfMemory → self.new ≡ self.old }
+        ensures no_memory { result ≡ Err FileFault.OutOfMemory → self.new ≡ record self.old {
+          calls = risen self.old.calls;
+        } }
         ensures ok { OnOk result (self.new ≡ record self.old { calls = risen self.old.calls }) }
     {
-        let call = self.calls.saturating_add(1);
-        if is_listed(&self.fails, call) {
-            self.calls = call;
+        self.calls = self.calls.saturating_add(1);
+        if is_listed(&self.fails, self.calls) {
             self.read_faults = self.read_faults.saturating_add(1);
             return Err(FileFault::Failed);
         }
         match find_file(&self.files, name) {
             None => {
-                self.calls = call;
                 self.absences = self.absences.saturating_add(1);
                 Err(FileFault::Absent)
             }
             Some(bytes) => match bytes[..most.min(bytes.len())].to_vec(alloc) {
-                Ok(front) => {
-                    self.calls = call;
-                    Ok(front)
-                }
+                Ok(front) => Ok(front),
                 Err(_) => Err(FileFault::OutOfMemory),
             },
         }
     }
 
-    /// Fails exactly where the number of the call is listed, and then leaves all files. Want of
-    /// memory leaves the folder as it was, with that number still to come.
+    /// Fails exactly where the number of the call is listed, and then leaves all files, as want of
+    /// memory does.
     fn write(&mut self, alloc: Global, name: &str, bytes: &[u8]) -> Result<(), PutFault>
         ensures written { OnOk result
             (SetsFile (Some (get self.old.files)) (Some (get self.new.files)) name.now bytes.now) }
         ensures others { KeepsOthers (Some (get self.old.files)) (Some (get self.new.files)) name.now }
+        ensures calls { self.new.calls ≡ risen self.old.calls }
         ensures write_faults { self.old.write_faults ≤ self.new.write_faults }
 
         ensures failing { (result ≡ Err PutFault.Failed)
@@ -188,24 +188,22 @@ impl Folder for MemFolder {
           calls = risen self.old.calls;
           write_faults = risen self.old.write_faults;
         } }
-        ensures no_memory { result ≡ Err PutFault.OutOfMemory → self.new ≡ self.old }
+        ensures no_memory { result ≡ Err PutFault.OutOfMemory → self.new ≡ record self.old {
+          calls = risen self.old.calls;
+        } }
         ensures ok { OnOk result (self.new ≡ record self.old {
           files = insert self.old.files name.now bytes.now;
           calls = risen self.old.calls;
         }) }
     {
-        let call = self.calls.saturating_add(1);
-        if is_listed(&self.fails, call) {
-            self.calls = call;
+        self.calls = self.calls.saturating_add(1);
+        if is_listed(&self.fails, self.calls) {
             self.write_faults = self.write_faults.saturating_add(1);
             return Err(PutFault::Failed);
         }
-        match put_file(alloc, &mut self.files, name, bytes) {
-            Ok(()) => {
-                self.calls = call;
-                Ok(())
-            }
-            Err(_) => Err(PutFault::OutOfMemory),
+        if put_file(alloc, &mut self.files, name, bytes).is_err() {
+            return Err(PutFault::OutOfMemory);
         }
+        Ok(())
     }
 }

@@ -52,11 +52,12 @@ fn write_whole<R: Files>(rt: &R, name: &str, bytes: &[u8]) -> Result<(), PutFaul
 
 /// The working folder. A name is a path that begins there, and the folder tells no content.
 ///
-/// Contracts see it as its three counts, of which one rises at each `Failed` and each `Absent`, and
-/// none at an `OutOfMemory`.
+/// Contracts see it as its four counts: that of the calls rises at each, and one of the others at
+/// each `Failed` and each `Absent`.
 #[derive(Drop)]
 pub struct StdFolder<R> {
     rt: R,
+    calls: u64,
     read_faults: u64,
     write_faults: u64,
     absences: u64,
@@ -68,6 +69,7 @@ impl<R> Model for StdFolder<R> {
     ghost Value = { FolderCounts };
 
     ghost view = { λ f. record {
+      calls = f.calls;
       read_faults = f.read_faults;
       write_faults = f.write_faults;
       absences = f.absences;
@@ -75,12 +77,13 @@ impl<R> Model for StdFolder<R> {
 }
 
 impl<R: Files> StdFolder<R> {
-    /// The working folder of this runtime, with no fault and no absence so far.
+    /// The working folder of this runtime, with no call, no fault and no absence so far.
     pub fn new(rt: R) -> Self
-        ensures { result ≡ record { read_faults = 0; write_faults = 0; absences = 0 } }
+        ensures { result ≡ record { calls = 0; read_faults = 0; write_faults = 0; absences = 0 } }
     {
         StdFolder {
             rt,
+            calls: 0,
             read_faults: 0,
             write_faults: 0,
             absences: 0,
@@ -91,6 +94,8 @@ impl<R: Files> StdFolder<R> {
 impl<R: Files> Folder for StdFolder<R> {
     ghost files = { λ _. None };
 
+    ghost calls = { λ f. f.calls };
+
     ghost read_faults = { λ f. f.read_faults };
 
     ghost write_faults = { λ f. f.write_faults };
@@ -99,16 +104,24 @@ impl<R: Files> Folder for StdFolder<R> {
 
     fn read(&mut self, alloc: Global, name: &str, most: usize) -> Result<Vec<u8>, FileFault>
         ensures bound { IfOk result (λ bytes. vec_len bytes ≤ most) }
+        ensures calls { self.new.calls ≡ risen self.old.calls }
         ensures read_faults { self.old.read_faults ≤ self.new.read_faults }
         ensures absences { self.old.absences ≤ self.new.absences }
 
-        ensures failed { result ≡ Err FileFault.Failed
-            → self.new ≡ record self.old { read_faults = risen self.old.read_faults } }
-        ensures absent { result ≡ Err FileFault.Absent
-            → self.new ≡ record self.old { absences = risen self.old.absences } }
-        ensures no_memory { result ≡ Err FileFault.OutOfMemory → self.new ≡ self.old }
-        ensures ok { OnOk result (self.new ≡ self.old) }
+        ensures failed { result ≡ Err FileFault.Failed → self.new ≡ record self.old {
+          calls = risen self.old.calls;
+          read_faults = risen self.old.read_faults;
+        } }
+        ensures absent { result ≡ Err FileFault.Absent → self.new ≡ record self.old {
+          calls = risen self.old.calls;
+          absences = risen self.old.absences;
+        } }
+        ensures no_memory { result ≡ Err FileFault.OutOfMemory → self.new ≡ record self.old {
+          calls = risen self.old.calls;
+        } }
+        ensures ok { OnOk result (self.new ≡ record self.old { calls = risen self.old.calls }) }
     {
+        self.calls = self.calls.saturating_add(1);
         match read_front(&self.rt, alloc, name, most) {
             Ok(bytes) => Ok(bytes),
             Err(ErrorKind::OutOfMemory) => Err(FileFault::OutOfMemory),
@@ -124,13 +137,19 @@ impl<R: Files> Folder for StdFolder<R> {
     }
 
     fn write(&mut self, _alloc: Global, name: &str, bytes: &[u8]) -> Result<(), PutFault>
+        ensures calls { self.new.calls ≡ risen self.old.calls }
         ensures write_faults { self.old.write_faults ≤ self.new.write_faults }
 
-        ensures failed { result ≡ Err PutFault.Failed
-            → self.new ≡ record self.old { write_faults = risen self.old.write_faults } }
-        ensures no_memory { result ≡ Err PutFault.OutOfMemory → self.new ≡ self.old }
-        ensures ok { OnOk result (self.new ≡ self.old) }
+        ensures failed { result ≡ Err PutFault.Failed → self.new ≡ record self.old {
+          calls = risen self.old.calls;
+          write_faults = risen self.old.write_faults;
+        } }
+        ensures no_memory { result ≡ Err PutFault.OutOfMemory → self.new ≡ record self.old {
+          calls = risen self.old.calls;
+        } }
+        ensures ok { OnOk result (self.new ≡ record self.old { calls = risen self.old.calls }) }
     {
+        self.calls = self.calls.saturating_add(1);
         match write_whole(&self.rt, name, bytes) {
             Ok(()) => Ok(()),
             Err(PutFault::OutOfMemory) => Err(PutFault::OutOfMemory),

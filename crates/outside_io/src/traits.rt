@@ -1,9 +1,9 @@
-// The outside, by what it has left, holds or keeps, and by how often it has failed.
+// The outside, by what it has left, holds or keeps, and by how often it was called and has failed.
 ghost use Rattle.std.specs.Prelude.{ℕ, List, Option, ◌≡◌, ◌≤◌, Err, IfOk, OnOk, vec_len};
 ghost use Rattle.std.specs.Io.{ReadsAtMost};
 ghost use Rattle.std.specs.Io.KnownBytes.{ReadConsumes};
 ghost use Rattle.outside_io.specs.Bytes.{WritesAll};
-ghost use Rattle.outside_io.specs.Causes.{Rose, HasCause};
+ghost use Rattle.outside_io.specs.Causes.{risen, Rose, HasCause};
 ghost use Rattle.outside_io.specs.Files.{Files, Lacks, IsLacking, HasFront, KeepsFiles, SetsFile, KeepsOthers};
 ghost use Rattle.outside_io.specs.Answers.{IsAbsentAnswer};
 
@@ -18,6 +18,10 @@ pub trait Source {
     /// The bytes left, the next one first, where they are told. What is told once stays told.
     ghost left: { Self → Option (List ℕ) };
 
+    /// How often it was read, with the reads that failed. Each read raises the count by one, until
+    /// it stands still at the last value of a u64.
+    ghost calls: { Self → ℕ };
+
     /// How often a read failed. The count never falls, and stands still at the last value of a u64.
     ghost faults: { Self → ℕ };
 
@@ -28,6 +32,7 @@ pub trait Source {
     fn read(&mut self, buf: &mut [u8]) -> Result<usize, Failed>
         ensures bound { ReadsAtMost result buf.new }
         ensures bytes { ReadConsumes (left self.old) (left self.new) result buf.new }
+        ensures calls { calls self.new ≡ risen (calls self.old) }
         ensures cause { HasCause (faults self.old) (faults self.new) result };
 }
 
@@ -36,6 +41,10 @@ pub trait Sink {
     /// The bytes held, the first that came first, where they are told. What is told once stays
     /// told.
     ghost held: { Self → Option (List ℕ) };
+
+    /// How often it was written, with the writes that failed. Each write raises the count by one,
+    /// until it stands still at the last value of a u64.
+    ghost calls: { Self → ℕ };
 
     /// How often a write failed. The count never falls, and stands still at the last value of a
     /// u64.
@@ -47,6 +56,7 @@ pub trait Sink {
     /// the faults rose.
     fn write(&mut self, bytes: &[u8]) -> Result<(), Failed>
         ensures bytes { WritesAll (held self.old) (held self.new) result bytes.now }
+        ensures calls { calls self.new ≡ risen (calls self.old) }
         ensures cause { HasCause (faults self.old) (faults self.new) result };
 }
 
@@ -79,6 +89,9 @@ pub trait Folder {
     /// is told once stays told.
     ghost files: { Self → Option Files };
 
+    /// How often it was read or written, with the calls that failed. Each raises the count by one.
+    ghost calls: { Self → ℕ };
+
     /// How often a read failed.
     ghost read_faults: { Self → ℕ };
 
@@ -93,11 +106,12 @@ pub trait Folder {
     /// `Absent` comes only where the absences rose and, where the files are told, only where they
     /// lack the name. Where they lack it, no other answer comes, unless the read faults rose or
     /// memory was wanting. `Failed` comes only where the read faults rose. `OutOfMemory` raises no
-    /// count.
+    /// other count.
     fn read(&mut self, alloc: Global, name: &str, most: usize) -> Result<Vec<u8>, FileFault>
         ensures bound { IfOk result (λ bytes. vec_len bytes ≤ most) }
         ensures bytes { IfOk result (λ bytes. HasFront (files self.old) name.now most bytes.items) }
         ensures files { KeepsFiles (files self.old) (files self.new) }
+        ensures calls { calls self.new ≡ risen (calls self.old) }
 
         ensures read_faults { read_faults self.old ≤ read_faults self.new }
         ensures write_faults { write_faults self.new ≡ write_faults self.old }
@@ -118,11 +132,12 @@ pub trait Folder {
     /// Makes the file of that name hold these bytes and no others, and leaves the other files.
     ///
     /// `Failed` comes only where the write faults rose: the named file may then hold anything or be
-    /// gone, and the others stay. `OutOfMemory` leaves all files and raises no count.
+    /// gone, and the others stay. `OutOfMemory` leaves all files and raises no other count.
     fn write(&mut self, alloc: Global, name: &str, bytes: &[u8]) -> Result<(), PutFault>
         ensures written { OnOk result
             (SetsFile (files self.old) (files self.new) name.now bytes.now) }
         ensures others { KeepsOthers (files self.old) (files self.new) name.now }
+        ensures calls { calls self.new ≡ risen (calls self.old) }
         ensures no_memory { result ≡ Err PutFault.OutOfMemory
             → KeepsFiles (files self.old) (files self.new)
             × (write_faults self.new ≡ write_faults self.old) }

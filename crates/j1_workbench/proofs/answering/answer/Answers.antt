@@ -6,7 +6,7 @@ use Rattle.j1_workbench.proofs.answering.answer.Goals as goal
 
 pub returns-in-Some-Certify : goal.returns-in-Some-Certify
 returns-in-Some-Certify g c =
-    does_certify _ c.in-Some-Certify.source.now _ _ _ _ (search rules) (c.certify.ensures (stream (g.C.Source.left c.args.console.now) (g.C.Source.faults c.args.console.now)))
+    does_certify _ c.in-Some-Certify.source.now _ _ _ _ (search rules) (c.certify.ensures (stream (g.C.Source.left c.args.console.now) (g.C.Source.calls c.args.console.now) (g.C.Source.faults c.args.console.now)))
 
 pub returns-in-Some-Build : goal.returns-in-Some-Build
 returns-in-Some-Build g c = does_not_yet _ (Build c.in-Some-Build.field-0-0.now c.in-Some-Build.field-0-1.now) _ c.answered-in-Some-Build.result (search rules) refl c.answered-in-Some-Build.ensures

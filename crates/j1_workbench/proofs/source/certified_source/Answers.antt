@@ -9,8 +9,8 @@ use Rattle.j1_workbench.proofs.source.certified_source.Goals as goal
 
 pub returns-in-Ok-clause-found : goal.returns-in-Ok-clause-found
 returns-in-Ok-clause-found g c =
-    let before = folder (g.F.Folder.files c.args.files.now) (g.F.Folder.read_faults c.args.files.now) (g.F.Folder.write_faults c.args.files.now) (g.F.Folder.absences c.args.files.now) in
-    let after = folder (g.F.Folder.files c.read.new.self) (g.F.Folder.read_faults c.read.new.self) (g.F.Folder.write_faults c.read.new.self) (g.F.Folder.absences c.read.new.self) in
+    let before = folder (g.F.Folder.files c.args.files.now) (g.F.Folder.calls c.args.files.now) (g.F.Folder.read_faults c.args.files.now) (g.F.Folder.write_faults c.args.files.now) (g.F.Folder.absences c.args.files.now) in
+    let after = folder (g.F.Folder.files c.read.new.self) (g.F.Folder.calls c.read.new.self) (g.F.Folder.read_faults c.read.new.self) (g.F.Folder.write_faults c.read.new.self) (g.F.Folder.absences c.read.new.self) in
     let read = subst (HasFront (g.F.Folder.files c.args.files.now) c.args.source.now 65537) (sym c.as_slice.ensures.value) c.in-Ok.ensures.bytes in
     on_either
     (λ found. IsCertified c.as_slice.result.now found.0 found.1) (λ found. IsCertifiedSource c.args.source.now before found.0 found.1)
