@@ -1,6 +1,6 @@
 // What the text says.
 ghost use Rattle.std.specs.Prelude.{◌≡◌};
-ghost use Rattle.control_flow.specs.Outcome.{Fine};
+ghost use Rattle.control_flow.specs.ParseResult.{Fine};
 ghost use Rattle.control_flow.specs.SourceText.{program_of_text};
 ghost use Rattle.arithmetic_words.specs.Program.{arithmetic_library};
 

@@ -1,6 +1,6 @@
 // The program of the text.
 ghost use Rattle.std.specs.Prelude.{◌≡◌, IfOk};
-ghost use Rattle.control_flow.specs.Outcome.{Fine};
+ghost use Rattle.control_flow.specs.ParseResult.{Fine};
 ghost use Rattle.control_flow.specs.SourceText.{program_of_text};
 ghost use Rattle.library_laws.specs.Bodies.{arithmetic_words};
 ghost use Rattle.library_laws.specs.Library.{MeanWords};

@@ -18,7 +18,7 @@ use Rattle.code_layout.specs.Layout.{Routine, Definition, Library, Executing, Ab
 use Rattle.code_layout.specs.Built.{word_is_laid_out, is_laid_out}
 use Rattle.code_layout.specs.LastCalls.{begins_well}
 use Rattle.code_layout.proofs.Machine.{both}
-use Rattle.code_layout.proofs.Laying.{if_size_is, from_size, arm_size_is, node_size_is, size_is, arms_size_is, either, cut, onward, turn_size_is}
+use Rattle.code_layout.proofs.LaidCode.{if_size_is, from_size, arm_size_is, node_size_is, size_is, arms_size_is, either, cut, onward, turn_size_is}
 use Rattle.code_layout.proofs.Followed.{Later, MayFollow, CallsFollowed, is_no_call, followed_join, other_cell, jump_back, jump_on, return_with_way_back, no_calls, one_no_call, cell_if_no_call}
 
 -- ---- the cells of words and numbers

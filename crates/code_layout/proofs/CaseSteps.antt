@@ -5,7 +5,7 @@ use Rattle.cell_math.specs.Cell.{flag}
 use Rattle.word_table.specs.declared.word.Word.TheVariants.{Over, Equal, DropTop}
 use Rattle.j1_table.specs.declared.instr.Instr.TheVariants.{Jump}
 use Rattle.j1_simulator.specs.Effect.{following}
-use Rattle.j1_simulator.specs.OpenMachine.{first as top}
+use Rattle.j1_simulator.specs.OpenMachine.{top_cell as top}
 use Rattle.forth_program.specs.Tree.{Nodes, Arms, QDo, Case}
 use Rattle.forth_program.specs.State.{Entry, Work, Todo, OfTest, EndOf, Frame, World, State, Goes}
 use Rattle.forth_program.specs.Tail.{ends_body}
@@ -13,7 +13,7 @@ use Rattle.forth_program.specs.Program.{SourceProgram}
 use Rattle.forth_program.specs.Step.{before, loop_begins, loop_may_begin, of_chooses, case_ends}
 use Rattle.word_laws.specs.Rings.{OpenConfiguration}
 use Rattle.forth_program.specs.Cells.{AreCells, AreEntries, IsWorld}
-use Rattle.word_laws.specs.Control.{Holds}
+use Rattle.word_laws.specs.Control.{HoldsInstruction}
 use Rattle.word_laws.specs.Standing.{data_places, return_places, StandIn}
 use Rattle.code_layout.specs.Layout.{end_case_cells}
 use Rattle.forth_program.specs.SourceTokens.{tokens_of}
@@ -85,7 +85,7 @@ module _ (laws : Laws) (p : SourceProgram) (code : List ℕ) (place : ℕ → �
         (runs_then laws p.data_start high return_high 3 1 v (There (following h.2.0) es (y ∷ c) (top (data_places (y ∷ c)) ∷ g.0) g.1) (There h.0 es c d.0 d.1)
         (runs_then laws p.data_start high return_high 2 1 v (There h.2.0 es (65535 ∷ y ∷ c) g.0 g.1) (There (following h.2.0) es (y ∷ c) (top (data_places (y ∷ c)) ∷ g.0) g.1) g.2 b) d.2)
         (record {
-          stands = stands_before code place p body out h.0 (EndOf ∷ w) (λ e. (end_at : ℕ) × Holds code e (Jump end_at) × Stands code place p out end_at w) (λ e k. (inl (k.0, k.1, k.2), omega (arith, few))) h.3 (omega (arith, few));
+          stands = stands_before code place p body out h.0 (EndOf ∷ w) (λ e. (end_at : ℕ) × HoldsInstruction code e (Jump end_at) × Stands code place p out end_at w) (λ e k. (inl (k.0, k.1, k.2), omega (arith, few))) h.3 (omega (arith, few));
           loops = loops_before code place p body out (EndOf ∷ w) l;
           frames = frames;
           cells = fc.1.1;

@@ -17,11 +17,11 @@ use Rattle.forth_program.specs.Tree.{Nodes}
 use Rattle.code_layout.specs.Layout.{laid_out}
 use Rattle.code_layout.specs.Library.{IsLibrary, LibraryMeans}
 use Rattle.code_layout.specs.Built.{IsBuilt}
-use Rattle.forth_program.specs.Heights.{StacksFit, GoesWell}
-use Rattle.code_layout.specs.Agreement.{AreBytes, code_of, stop_of, DoesAsMuch, word_steps, DoesNoMore, ImagesAgree}
+use Rattle.forth_program.specs.Heights.{StacksFit, IsSafe}
+use Rattle.code_layout.specs.Agreement.{AreBytes, code_of, stop_of_outcome, ForwardSimulation, word_steps, BackwardSimulation, ImagesAgree}
 use Rattle.code_layout.specs.Chip.{DepthStaysWithin, AgreesOnChip}
 use Rattle.code_layout.proofs.Image.{filled_length}
-use Rattle.code_layout.proofs.Agreeing.{never_missing, stop_at}
+use Rattle.code_layout.proofs.Simulation.{never_missing, stop_at}
 
 fewer : (P : OpenConfiguration → Type 0) (data_start n m : ℕ) (v : OpenConfiguration) → n ≤ m → BeforeEach P data_start m v → BeforeEach P data_start n v
 fewer P data_start zero m v h before = tt
@@ -33,25 +33,25 @@ after_each P data_start zero v before = before.0
 after_each P data_start (suc n) v before = after_each P data_start n (advanced v.stop open_storage data_start v) before.1
 
 module _ (agree : ImagesAgree) (rings : RunsDoTheSame) (bounds_fit : BoundsFitRings) (bounds_join : BoundsJoin) (ends_stay : EndsStay) (grows : OnlyGrows open_storage)
-    (library : List Nodes) (p : SourceProgram) (input : List ℕ) (form : IsLibrary library) (means : LibraryMeans library) (built : IsBuilt library p) (space : AreBytes p.first_space) (bytes : AreBytes input) (well : (k : ℕ) → GoesWell p input k) (fit : (k : ℕ) → StacksFit p input 33 32 k) where
+    (library : List Nodes) (p : SourceProgram) (input : List ℕ) (form : IsLibrary library) (means : LibraryMeans library) (built : IsBuilt library p) (space : AreBytes p.first_space) (bytes : AreBytes input) (well : (k : ℕ) → IsSafe p input k) (fit : (k : ℕ) → StacksFit p input 33 32 k) where
   abbrev start : OpenConfiguration
   start = begun (open_start (laid_out library p)) input
 
-  much : (k : ℕ) → DoesAsMuch library p input k
-  much k = agree.as_much library p input k form means built space bytes (well k)
+  much : (k : ℕ) → ForwardSimulation library p input k
+  much k = agree.forward library p input k form means built space bytes (well k)
 
-  more : (n : ℕ) → DoesNoMore library p input n
-  more n = agree.no_more library p input n form means built space bytes (well (word_steps p n))
+  more : (n : ℕ) → BackwardSimulation library p input n
+  more n = agree.backward library p input n form means built space bytes (well (word_steps p n))
 
   module _ (high return_high : ℕ) (fits : (k : ℕ) → StacksFit p input high return_high k) where
-    always_by : (n : ℕ) (m : DoesAsMuch library p input (word_steps p n)) (o : Outcome) → source_run p input (word_steps p n) ≡ o → BeforeEach (StaysWithin 0 high 0 return_high) p.data_start (suc n) start
+    always_by : (n : ℕ) (m : ForwardSimulation library p input (word_steps p n)) (o : Outcome) → source_run p input (word_steps p n) ≡ o → BeforeEach (StaysWithin 0 high 0 return_high) p.data_start (suc n) start
     always_by n m (Goes s) e =
         let lt : n < m.count = m.far_enough n (omega arith) (ap end_of e) in
         fewer (StaysWithin 0 high 0 return_high) p.data_start (suc n) m.count start (omega (arith, lt)) (m.stacks_before high return_high (fits (word_steps p n)))
     always_by n m (Ends end world) e =
         let w = well (word_steps p n) in
         let stop = stop_at end world (sym (ap lacks e) ∙ w.lacks_nothing) in
-        let stopped : (open_run (laid_out library p) input m.count).stop ≡ Some stop.0 = m.shows.stop_is ∙ ap stop_of e ∙ stop.1 in
+        let stopped : (open_run (laid_out library p) input m.count).stop ≡ Some stop.0 = m.shows.stop_is ∙ ap stop_of_outcome e ∙ stop.1 in
         let stay = ends_stay 0 high 0 return_high (suc n) p.data_start (open_run (laid_out library p) input m.count) stop.0 stopped in
         fewer (StaysWithin 0 high 0 return_high) p.data_start (suc n) (m.count + suc n) start (omega arith)
         (bounds_join 0 high 0 return_high m.count (suc n) p.data_start start (m.stacks_before high return_high (fits (word_steps p n))) (stay.1 (m.stacks_at_end high return_high end (fits (word_steps p n)) (ap end_of e))))
@@ -74,11 +74,11 @@ module _ (agree : ImagesAgree) (rings : RunsDoTheSame) (bounds_fit : BoundsFitRi
       let two = grows.ends p.data_start m.count (n + m.count) start stop'.0 (omega arith) (m.shows.stop_is ∙ stop'.1) in
       sym one ∙ two
     where
-      stop_now : (k : ℕ) (end : End) (o : Outcome) → source_run p input k ≡ o → end_of (source_run p input k) ≡ Some end → (stop : Stop) × (stop_of (source_run p input k) ≡ Some stop)
+      stop_now : (k : ℕ) (end : End) (o : Outcome) → source_run p input k ≡ o → end_of (source_run p input k) ≡ Some end → (stop : Stop) × (stop_of_outcome (source_run p input k) ≡ Some stop)
       stop_now k end (Goes s) e f = let g : None ≡ Some end = sym (ap end_of e) ∙ f in cc
-      stop_now k end (Ends end' world) e f = let w = well k in let s = stop_at end' world (sym (ap lacks e) ∙ w.lacks_nothing) in (s.0, ap stop_of e ∙ s.1)
+      stop_now k end (Ends end' world) e f = let w = well k in let s = stop_at end' world (sym (ap lacks e) ∙ w.lacks_nothing) in (s.0, ap stop_of_outcome e ∙ s.1)
 
-  stop_of_end : (o : Outcome) (end : End) → lacks o ≡ false → end_of o ≡ Some end → (stop : Stop) × (stop_of o ≡ Some stop) × (machine_end end ≡ Some stop)
+  stop_of_end : (o : Outcome) (end : End) → lacks o ≡ false → end_of o ≡ Some end → (stop : Stop) × (stop_of_outcome o ≡ Some stop) × (machine_end end ≡ Some stop)
   stop_of_end (Goes s) end sound e = cc
   stop_of_end (Ends end' world) end sound e = let s = stop_at end' world sound in let same : end' ≡ end = cc in (s.0, s.1, ap machine_end (sym same) ∙ s.1)
 

@@ -12,7 +12,7 @@ use Rattle.forth_program.specs.Program.{SourceProgram}
 use Rattle.forth_program.specs.Form.{everywhere, inside}
 use Rattle.forth_program.specs.ByteWords.{type_out}
 use Rattle.forth_program.specs.Meaning.{meaning}
-use Rattle.forth_program.specs.Step.{First, BodyEnd, IsLiteral, IsWord, IsCall, IsChild, IsText, IsIf, IsTrueEnd, IsUntil, IsWhile, IsRepeat, IsAgain, IsDo, IsQDo, IsTurn, IsOf, IsEndOf, IsEndCase, IsLeave, IsExit, before, first_in, first_among, first, on_cells, word_step, text_step, on_flag, closed_by, loop_begins, crosses, turned, turn, after_loop, leave, act, step}
+use Rattle.forth_program.specs.Step.{First, BodyEnd, IsLiteral, IsWord, IsCall, IsChild, IsText, IsIf, IsTrueEnd, IsUntil, IsWhile, IsRepeat, IsAgain, IsDo, IsQDo, IsTurn, IsOf, IsEndOf, IsEndCase, IsLeave, IsExit, before, first_in, first_among, first_work, on_cells, word_step, text_step, on_flag, closed_by, loop_begins, crosses, turned, turn, after_loop, leave, act, step}
 use Rattle.forth_program.specs.Run.{and_then, steps}
 use Rattle.forth_program.specs.Price.{step_price, spent}
 use Rattle.code_layout.specs.Library.{is_own}
@@ -99,7 +99,7 @@ mutual
   own_among Empty f w all of own = of
   own_among (Then node rest) f w all of own = let o = one_own node rest all in own_in node (before rest w) o.0 o.1 (own_before rest w o.2 own)
 
-own_first : (w : List Work) → w ≢ [] → AllOwn w → OwnFirst (first w)
+own_first : (w : List Work) → w ≢ [] → AllOwn w → OwnFirst (first_work w)
 own_first [] busy own = absurd (busy refl)
 own_first (Todo node ∷ w) busy own = own_in node w own.0 own.1 own.2
 own_first (TrueEnd ∷ w) busy own = own
@@ -117,16 +117,16 @@ depth_first (IsWord Depth after) c own = absurd (let g : false ≡ true = own.0 
 depth_first f c own = tt
 
 -- DEPTH is no such item
-pub own_depth : (w : List Work) (c : List ℕ) → w ≢ [] → AllOwn w → DepthFits (first w) c
-own_depth w c busy own = depth_first (first w) c (own_first w busy own)
+pub own_depth : (w : List Work) (c : List ℕ) → w ≢ [] → AllOwn w → DepthFits (first_work w) c
+own_depth w c busy own = depth_first (first_work w) c (own_first w busy own)
 
 execute_first : (p : SourceProgram) (f : First) (c : List ℕ) → OwnFirst f → execute_back p f c ≡ 0
 execute_first p (IsWord Execute after) c own = absurd (let g : false ≡ true = own.0 in cc)
 execute_first p f c own = refl
 
 -- nor is EXECUTE
-pub own_execute : (p : SourceProgram) (w : List Work) (c : List ℕ) → w ≢ [] → AllOwn w → execute_back p (first w) c ≡ 0
-own_execute p w c busy own = execute_first p (first w) c (own_first w busy own)
+pub own_execute : (p : SourceProgram) (w : List Work) (c : List ℕ) → w ≢ [] → AllOwn w → execute_back p (first_work w) c ≡ 0
+own_execute p w c busy own = execute_first p (first_work w) c (own_first w busy own)
 
 -- no wrong return entry was found
 abbrev pub balanced : Outcome → Bool
@@ -245,7 +245,7 @@ module _ (es : List Entry) where
 
     pub step_deeper : (s : State) → s.work ≢ [] → AllOwn s.work → balanced (step p s) ≡ true → (step p (deeper s) ≡ deeper_outcome (step p s)) × OwnAfter s.callers (step p s)
     unfolding step
-    step_deeper s busy own sound = act_deeper (first s.work) s (own_first s.work busy own) sound
+    step_deeper s busy own sound = act_deeper (first_work s.work) s (own_first s.work busy own) sound
 
     -- ---- runs
 

@@ -9,10 +9,10 @@ use Rattle.forth_program.specs.Tree.{Nodes, Plain, Empty, Then}
 use Rattle.forth_program.specs.State.{Entry, Work, TrueEnd, UntilTest, WhileTest, Repeat, BeginAgain, Frame, World, State}
 use Rattle.forth_program.specs.Tail.{ends_body}
 use Rattle.forth_program.specs.Program.{SourceProgram}
-use Rattle.forth_program.specs.Step.{First, BodyEnd, IsLiteral, IsWord, IsCall, IsChild, IsText, IsIf, IsTrueEnd, IsUntil, IsWhile, IsRepeat, IsAgain, IsDo, IsQDo, IsTurn, IsOf, IsEndOf, IsEndCase, IsLeave, IsExit, before, word_step, act, first, step}
+use Rattle.forth_program.specs.Step.{First, BodyEnd, IsLiteral, IsWord, IsCall, IsChild, IsText, IsIf, IsTrueEnd, IsUntil, IsWhile, IsRepeat, IsAgain, IsDo, IsQDo, IsTurn, IsOf, IsEndOf, IsEndCase, IsLeave, IsExit, before, word_step, act, first_work, step}
 use Rattle.forth_program.specs.Price.{word_price, first_price, step_price}
 use Rattle.forth_program.specs.Cells.{AreCells, AreEntries, IsWorld}
-use Rattle.word_laws.specs.Control.{Holds}
+use Rattle.word_laws.specs.Control.{HoldsInstruction}
 use Rattle.word_laws.specs.Standing.{return_places, standing_as}
 use Rattle.forth_program.specs.Heights.{peak_of, back_of, DepthFits}
 use Rattle.code_layout.proofs.Work.{ahead, unfinished, Placed, Stands, Loops, loops_before, stands_before, stands_to, back, opens, Frames, Meets}
@@ -21,8 +21,8 @@ use Rattle.code_layout.proofs.Steps.{Follows, AllStand, applies, number_follows,
 use Rattle.code_layout.proofs.LibraryWords.{library_step}
 use Rattle.code_layout.proofs.LibrarySteps.{library_follows}
 use Rattle.code_layout.proofs.TextSteps.{child_follows, text_follows}
-use Rattle.code_layout.proofs.Hands.{Executes, execute_follows}
-use Rattle.code_layout.proofs.Returning.{body_ends}
+use Rattle.code_layout.proofs.ExecuteStep.{Executes, execute_follows}
+use Rattle.code_layout.proofs.BodyEnds.{body_ends}
 use Rattle.code_layout.proofs.LoopSteps.{do_follows, turn_follows, leave_follows}
 use Rattle.code_layout.proofs.CaseSteps.{q_do_follows, of_follows, end_case_follows}
 
@@ -39,7 +39,7 @@ module _ (laws : Laws) (p : SourceProgram) (code : List ℕ) (place : ℕ → �
     if_follows first (Then node rest) after w es c h l fe fc room back =
         flag_follows laws p code place size high return_high pc now out fs world fits starts base data_above return_above frames due h.0.0 (before (Then node rest) after) (before first (TrueEnd ∷ after)) w es c h.0.1
         (stands_before code place p (Then node rest) out h.0.0 after (λ q. Stands code place p out q after) (λ q k. k) h.0.3 (omega (arith, h.1))) (loops_before code place p (Then node rest) out after l)
-        (stands_before code place p first out (following pc) (TrueEnd ∷ after) (λ e. (next : ℕ) × Holds code e (Jump next) × Stands code place p out next after) (λ e k. (inl (k.0, k.1, k.2), omega (arith, h.1))) h.0.2 (omega (arith, h.1)))
+        (stands_before code place p first out (following pc) (TrueEnd ∷ after) (λ e. (next : ℕ) × HoldsInstruction code e (Jump next) × Stands code place p out next after) (λ e k. (inl (k.0, k.1, k.2), omega (arith, h.1))) h.0.2 (omega (arith, h.1)))
         (loops_before code place p first out (TrueEnd ∷ after) l) fe fc room back
 
     -- what follows a first work: the machine follows, or it has come to the code of a token
@@ -110,12 +110,12 @@ module _ (laws : Laws) (p : SourceProgram) (code : List ℕ) (place : ℕ → �
   -- from where a state stands the machine follows its step, or has come to the code of a token
   abbrev pub StepFollows : State → OpenConfiguration → List (Option ℕ) → Type 0
   StepFollows s v base =
-      Follows laws p code place size v (step_price s) (ahead s.work + unfinished s.callers) (length s.cells + peak_of s.callers (first s.work)) (length (return_places s.entries base) + back_of (first s.work)) (step p s)
-      ⊎ Executes laws p code place size all v (step_price s) (ahead s.work + unfinished s.callers) (length s.cells + peak_of s.callers (first s.work)) (length (return_places s.entries base) + back_of (first s.work)) (first s.work) s.cells s.entries base (step p s)
+      Follows laws p code place size v (step_price s) (ahead s.work + unfinished s.callers) (length s.cells + peak_of s.callers (first_work s.work)) (length (return_places s.entries base) + back_of (first_work s.work)) (step p s)
+      ⊎ Executes laws p code place size all v (step_price s) (ahead s.work + unfinished s.callers) (length s.cells + peak_of s.callers (first_work s.work)) (length (return_places s.entries base) + back_of (first_work s.work)) (first_work s.work) s.cells s.entries base (step p s)
 
-  pub step_follows : (out : Option ℕ) (pc : ℕ) (s : State) (base data_above return_above : List (Option ℕ)) → Meets code place p out pc s base → DepthFits (first s.work) s.cells → StepFollows s (standing_as s code pc base data_above return_above) base
+  pub step_follows : (out : Option ℕ) (pc : ℕ) (s : State) (base data_above return_above : List (Option ℕ)) → Meets code place p out pc s base → DepthFits (first_work s.work) s.cells → StepFollows s (standing_as s code pc base data_above return_above) base
   unfolding step
   step_follows out pc s base data_above return_above m fit =
       let o = opens code place p out pc s.work m.stands m.loops in
-      first_follows (length s.cells + peak_of s.callers (first s.work)) (length (return_places s.entries base) + back_of (first s.work)) pc (ahead s.work + unfinished s.callers) o.out s.callers s.world m.world m.starts base data_above return_above m.frames (omega arith)
-      (first s.work) s.work s.entries s.cells o.stands o.loops (omega (arith, o.fewer)) m.entries m.cells fit (omega arith) (omega arith)
+      first_follows (length s.cells + peak_of s.callers (first_work s.work)) (length (return_places s.entries base) + back_of (first_work s.work)) pc (ahead s.work + unfinished s.callers) o.out s.callers s.world m.world m.starts base data_above return_above m.frames (omega arith)
+      (first_work s.work) s.work s.entries s.cells o.stands o.loops (omega (arith, o.fewer)) m.entries m.cells fit (omega arith) (omega arith)

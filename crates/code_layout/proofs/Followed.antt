@@ -10,7 +10,7 @@ use Rattle.j1_simulator.specs.Effect.{following}
 use Rattle.word_laws.specs.Standing.{StandIn}
 use Rattle.code_layout.specs.Layout.{cell_if, size_if}
 use Rattle.code_layout.proofs.Machine.{both}
-use Rattle.code_layout.proofs.Laying.{onward}
+use Rattle.code_layout.proofs.LaidCode.{onward}
 
 -- the cells of calls, jumps and branches
 pub call_is : (cell target : ℕ) → decoded cell ≡ CallTo target → (0x4000 ≤ cell) × (cell < 0x6000)

@@ -11,15 +11,16 @@ use Rattle.j1_simulator.specs.OpenMachine.{blank}
 use Rattle.j1_simulator.specs.Run.{begun, open_start}
 use Rattle.forth_program.specs.Tree.{Node, Nodes, Empty}
 use Rattle.forth_program.specs.Program.{SourceProgram}
-use Rattle.forth_program.specs.Form.{IsDataStart, everywhere, leaves_fit}
+use Rattle.forth_program.specs.Form.{everywhere, leaves_fit}
+use Rattle.console_ports.specs.DataSpace.{IsDataStart}
 use Rattle.forth_program.specs.Step.{before}
 use Rattle.forth_program.specs.Run.{first_world, first_state}
 use Rattle.forth_program.specs.Cells.{IsWorld}
 use Rattle.word_table.specs.declared.word.Word.{Word}
 use Rattle.word_table.specs.declared.word.Word.TheVariants.{TypeOut}
-use Rattle.word_laws.specs.Control.{Holds, halt_cells}
+use Rattle.word_laws.specs.Control.{HoldsInstruction, halt_cells}
 use Rattle.word_laws.specs.Standing.{standing_as, StandIn}
-use Rattle.code_layout.specs.Layout.{Routine, Definition, Library, Executing, Aborting, type_routine, return_cell, reaches_end, cell_if, size, body_size, nodes_cells, body_cells, bodies_cells, begins_at, bodies_size, execute_cells, abort_cells, tokens_cells, token_size, token_jumps, library_place, execute_place, abort_place, first_place, tokens_place, place_of, laid_out}
+use Rattle.code_layout.specs.Layout.{Routine, Definition, Library, Executing, Aborting, type_routine, return_cell, reaches_end, cell_if, size, body_size, nodes_cells, body_cells, bodies_cells, begins_at, bodies_size, execute_cells, abort_cells, tokens_cells, token_size, token_jumps, library_place, execute_place, abort_place, first_place, tokens_place, routine_place, laid_out}
 use Rattle.code_layout.specs.Numbering.{library_number}
 use Rattle.forth_program.specs.SourceTokens.{tokens_of, all_tokens}
 use Rattle.code_layout.specs.Built.{is_laid_out, IsBuilt}
@@ -28,8 +29,8 @@ use Rattle.code_layout.proofs.Routines.{IsRoutine, IsAborter}
 use Rattle.code_layout.proofs.Work.{Returns, IsExecutor, Stands, stands_before}
 use Rattle.code_layout.proofs.Machine.{Laws, both}
 use Rattle.code_layout.proofs.Steps.{AllStand}
-use Rattle.code_layout.proofs.Laying.{decode_call, size_is, body_size_is, cut, holds_if, all_placed, tokens_stand}
-use Rattle.code_layout.proofs.Executing.{is_aborter, is_executor}
+use Rattle.code_layout.proofs.LaidCode.{decode_call, size_is, body_size_is, cut, holds_if, all_placed, tokens_stand}
+use Rattle.code_layout.proofs.ExecuteAndAbort.{is_aborter, is_executor}
 
 -- ---- cells of bytes
 
@@ -80,7 +81,7 @@ first_world_is p input starts space bytes =
 -- a body stands at a place, and its return where it is reached
 pub record BodyCode (data_start : ℕ) (code : List ℕ) (place : Routine → ℕ) (at : ℕ) (body : Nodes) : Type 0 where
   pub cells_stand : StandIn code at (nodes_cells data_start place 0 at true true body) (at + size true true body)
-  pub returns : reaches_end true true body ≡ true → Holds code (at + size true true body) (decoded 0x700C)
+  pub returns : reaches_end true true body ≡ true → HoldsInstruction code (at + size true true body) (decoded 0x700C)
   pub low : at + size true true body < 8192
 
 module _ (data_start : ℕ) (code : List ℕ) (place : Routine → ℕ) where
@@ -145,10 +146,10 @@ filled_length n cells few = simp (length-append, length-replicate) (omega arith)
 
 module _ (laws : Laws) (library : List Nodes) (p : SourceProgram) (built : IsBuilt library p) where
   abbrev place : Routine → ℕ
-  place = place_of library p
+  place = routine_place library p
 
   abbrev pub definitions : ℕ → ℕ
-  definitions d = place_of library p (Definition d)
+  definitions d = routine_place library p (Definition d)
 
   pub code_size : length (code_of library p) ≡ p.data_start / 2
   code_size = filled_length (p.data_start / 2) (laid_out library p).cells built.code_fits
@@ -162,27 +163,27 @@ module _ (laws : Laws) (library : List Nodes) (p : SourceProgram) (built : IsBui
       ap (λ n. begun (record { pc = 0; t = None; data_stack = blank; return_stack = blank; memory = code_of library p ++ filled n (cells_of_bytes p.first_space) }) input) room
 
   abbrev jumps : List ℕ
-  jumps = token_jumps (place_of library p) (tokens_place library p) p.tokens
+  jumps = token_jumps (routine_place library p) (tokens_place library p) p.tokens
 
   abbrev of_library : List ℕ
-  of_library = bodies_cells p.data_start (place_of library p) (library_place p) library
+  of_library = bodies_cells p.data_start (routine_place library p) (library_place p) library
 
   abbrev of_execute : List ℕ
   of_execute = execute_cells (execute_place library p) (length p.tokens)
 
   abbrev of_abort : List ℕ
-  of_abort = abort_cells (abort_place library p) (place_of library p type_routine)
+  of_abort = abort_cells (abort_place library p) (routine_place library p type_routine)
 
   abbrev of_program : List ℕ
-  of_program = bodies_cells p.data_start (place_of library p) (first_place library p) p.bodies
+  of_program = bodies_cells p.data_start (routine_place library p) (first_place library p) p.bodies
 
   abbrev of_tokens : List ℕ
-  of_tokens = tokens_cells p.data_start (place_of library p) p.tokens
+  of_tokens = tokens_cells p.data_start (routine_place library p) p.tokens
 
   last : ℕ
   last = length (laid_out library p).cells
 
-  short : tokens_place library p + length (tokens_cells p.data_start (place_of library p) p.tokens) ≤ 8000
+  short : tokens_place library p + length (tokens_cells p.data_start (routine_place library p) p.tokens) ≤ 8000
   short =
       let few = built.code_fits in
       let most = built.data_start.at_most in
@@ -193,12 +194,12 @@ module _ (laws : Laws) (library : List Nodes) (p : SourceProgram) (built : IsBui
         length-append jumps (of_library ++ (of_execute ++ (of_abort ++ (of_program ++ of_tokens)))),
         length-append of_library (of_execute ++ (of_abort ++ (of_program ++ of_tokens))),
         length-append of_program of_tokens,
-        jumps_length (place_of library p) (tokens_place library p) p.tokens,
-        bodies_size_is p.data_start (place_of library p) (library_place p) library,
-        bodies_size_is p.data_start (place_of library p) (first_place library p) p.bodies,
+        jumps_length (routine_place library p) (tokens_place library p) p.tokens,
+        bodies_size_is p.data_start (routine_place library p) (library_place p) library,
+        bodies_size_is p.data_start (routine_place library p) (first_place library p) p.bodies,
       )
 
-  pub low : (r : Routine) → place_of library p r < 8192
+  pub low : (r : Routine) → routine_place library p r < 8192
   low (Definition d) = let h = short in begins_low (first_place library p) 0 p.bodies d (omega arith)
   low (Library number) = let h = short in begins_low (library_place p) 0 library number (omega arith)
   low Executing = let h = short in omega arith
@@ -207,7 +208,7 @@ module _ (laws : Laws) (library : List Nodes) (p : SourceProgram) (built : IsBui
   image_stands : StandIn (code_of library p) 0 (laid_out library p).cells (0 + length (laid_out library p).cells)
   image_stands = let few = built.code_fits in let most = built.data_start.at_most in laws.cells_stand [] (laid_out library p).cells (replicate (p.data_start / 2 - length (laid_out library p).cells) 0) (omega (arith, few, most))
 
-  pub main_called : Holds (code_of library p) 0 (CallTo (definitions p.main_body))
+  pub main_called : HoldsInstruction (code_of library p) 0 (CallTo (definitions p.main_body))
   main_called = (ap decoded image_stands.0 ∙ decode_call (definitions p.main_body) (low (Definition p.main_body)), image_stands.1)
 
   pub halt_stands : StandIn (code_of library p) 1 halt_cells 4
@@ -220,12 +221,12 @@ module _ (laws : Laws) (library : List Nodes) (p : SourceProgram) (built : IsBui
   pub jumps_stand : StandIn (code_of library p) 8 jumps (library_place p) × StandIn (code_of library p) (library_place p) (of_library ++ (of_execute ++ (of_abort ++ (of_program ++ of_tokens)))) end
   jumps_stand =
       let h = short in
-      cut (code_of library p) 8 (length p.tokens) jumps (of_library ++ (of_execute ++ (of_abort ++ (of_program ++ of_tokens)))) end (jumps_length (place_of library p) (tokens_place library p) p.tokens) (omega arith) image_stands.2.2.2.2.2.2.2.2
+      cut (code_of library p) 8 (length p.tokens) jumps (of_library ++ (of_execute ++ (of_abort ++ (of_program ++ of_tokens)))) end (jumps_length (routine_place library p) (tokens_place library p) p.tokens) (omega arith) image_stands.2.2.2.2.2.2.2.2
 
   library_stands : StandIn (code_of library p) (library_place p) of_library (execute_place library p) × StandIn (code_of library p) (execute_place library p) (of_execute ++ (of_abort ++ (of_program ++ of_tokens))) end
   library_stands =
       let h = short in
-      cut (code_of library p) (library_place p) (bodies_size library) of_library (of_execute ++ (of_abort ++ (of_program ++ of_tokens))) end (bodies_size_is p.data_start (place_of library p) (library_place p) library) (omega arith) jumps_stand.1
+      cut (code_of library p) (library_place p) (bodies_size library) of_library (of_execute ++ (of_abort ++ (of_program ++ of_tokens))) end (bodies_size_is p.data_start (routine_place library p) (library_place p) library) (omega arith) jumps_stand.1
 
   pub execute_stands : StandIn (code_of library p) (execute_place library p) of_execute (abort_place library p) × StandIn (code_of library p) (abort_place library p) (of_abort ++ (of_program ++ of_tokens)) end
   execute_stands = let h = short in cut (code_of library p) (execute_place library p) 15 of_execute (of_abort ++ (of_program ++ of_tokens)) end refl (omega arith) library_stands.1
@@ -236,35 +237,35 @@ module _ (laws : Laws) (library : List Nodes) (p : SourceProgram) (built : IsBui
   pub program_stands : StandIn (code_of library p) (first_place library p) of_program (tokens_place library p) × StandIn (code_of library p) (tokens_place library p) of_tokens end
   program_stands =
       let h = short in
-      cut (code_of library p) (first_place library p) (bodies_size p.bodies) of_program of_tokens end (bodies_size_is p.data_start (place_of library p) (first_place library p) p.bodies) (omega arith) abort_stands.1
+      cut (code_of library p) (first_place library p) (bodies_size p.bodies) of_program of_tokens end (bodies_size_is p.data_start (routine_place library p) (first_place library p) p.bodies) (omega arith) abort_stands.1
 
-  pub library_code : (number : ℕ) → number < length library → BodyCode p.data_start (code_of library p) (place_of library p) (place_of library p (Library number)) (slice_index_or library number Empty)
-  library_code number lt = let few = short in codes p.data_start (code_of library p) (place_of library p) (library_place p) (execute_place library p) library library_stands.0 (omega (arith, bodies_size_is p.data_start (place_of library p) (library_place p) library)) number lt
+  pub library_code : (number : ℕ) → number < length library → BodyCode p.data_start (code_of library p) (routine_place library p) (routine_place library p (Library number)) (slice_index_or library number Empty)
+  library_code number lt = let few = short in codes p.data_start (code_of library p) (routine_place library p) (library_place p) (execute_place library p) library library_stands.0 (omega (arith, bodies_size_is p.data_start (routine_place library p) (library_place p) library)) number lt
 
-  pub program_code : (d : ℕ) → d < length p.bodies → BodyCode p.data_start (code_of library p) (place_of library p) (definitions d) (slice_index_or p.bodies d Empty)
+  pub program_code : (d : ℕ) → d < length p.bodies → BodyCode p.data_start (code_of library p) (routine_place library p) (definitions d) (slice_index_or p.bodies d Empty)
   program_code d lt =
       let few = short in
-      codes p.data_start (code_of library p) (place_of library p) (first_place library p) (tokens_place library p) p.bodies program_stands.0 (omega (arith, bodies_size_is p.data_start (place_of library p) (first_place library p) p.bodies)) d lt
+      codes p.data_start (code_of library p) (routine_place library p) (first_place library p) (tokens_place library p) p.bodies program_stands.0 (omega (arith, bodies_size_is p.data_start (routine_place library p) (first_place library p) p.bodies)) d lt
 
   -- the code of ABORT" does what it does, where TYPE stands
-  aborts : ((word : Word) (number : ℕ) → library_number word ≡ Some number → number < length library → IsRoutine p.data_start (code_of library p) word (place_of library p (Library number))) → 34 < length library → IsAborter p.data_start (code_of library p) (place_of library p Aborting)
+  aborts : ((word : Word) (number : ℕ) → library_number word ≡ Some number → number < length library → IsRoutine p.data_start (code_of library p) word (routine_place library p (Library number))) → 34 < length library → IsAborter p.data_start (code_of library p) (routine_place library p Aborting)
   aborts routine some =
       let h = short in
-      is_aborter laws p (code_of library p) definitions code_size (abort_place library p) (place_of library p type_routine) (first_place library p) abort_stands.0 (omega arith) (low type_routine) (routine TypeOut 34 refl some)
+      is_aborter laws p (code_of library p) definitions code_size (abort_place library p) (routine_place library p type_routine) (first_place library p) abort_stands.0 (omega arith) (low type_routine) (routine TypeOut 34 refl some)
 
   -- and that of EXECUTE, where each token's jump leads to its code
-  executes : ((word : Word) (number : ℕ) → library_number word ≡ Some number → number < length library → IsRoutine p.data_start (code_of library p) word (place_of library p (Library number))) → IsExecutor (code_of library p) definitions p (place_of library p Executing)
+  executes : ((word : Word) (number : ℕ) → library_number word ≡ Some number → number < length library → IsRoutine p.data_start (code_of library p) word (routine_place library p (Library number))) → IsExecutor (code_of library p) definitions p (routine_place library p Executing)
   executes routine =
       let h = short in
       is_executor laws p (code_of library p) definitions code_size (execute_place library p) (length p.tokens) (abort_place library p) execute_stands.0 (omega arith) (omega arith) refl
-      (tokens_stand (code_of library p) (place_of library p) p false (length library) routine (λ e. absurd (let f : false ≡ true = e in cc)) (λ e. absurd (let f : false ≡ true = e in cc)) low p.tokens 8 (tokens_place library p) (library_place p) end built.token_items jumps_stand.0 program_stands.1 (omega arith) (omega arith))
+      (tokens_stand (code_of library p) (routine_place library p) p false (length library) routine (λ e. absurd (let f : false ≡ true = e in cc)) (λ e. absurd (let f : false ≡ true = e in cc)) low p.tokens 8 (tokens_place library p) (library_place p) end built.token_items jumps_stand.0 program_stands.1 (omega arith) (omega arith))
 
   -- every definition stands, where the library's routines do
-  pub all_stand : ((word : Word) (number : ℕ) → library_number word ≡ Some number → number < length library → IsRoutine p.data_start (code_of library p) word (place_of library p (Library number))) → AllStand laws p (code_of library p) definitions code_size
+  pub all_stand : ((word : Word) (number : ℕ) → library_number word ≡ Some number → number < length library → IsRoutine p.data_start (code_of library p) word (routine_place library p (Library number))) → AllStand laws p (code_of library p) definitions code_size
   all_stand routine = record {
     halt = halt_stands;
     bodies = λ d lt.
-        body_stands (code_of library p) (place_of library p) p true (length library) routine (λ e. executes routine) (λ e. aborts routine) low (definitions d) (slice_index_or p.bodies d Empty) (program_code d lt)
+        body_stands (code_of library p) (routine_place library p) p true (length library) routine (λ e. executes routine) (λ e. aborts routine) low (definitions d) (slice_index_or p.bodies d Empty) (program_code d lt)
         (test_of (everywhere (is_laid_out true (length library) (length p.bodies))) p.bodies d built.items lt) (test_of (leaves_fit false) p.bodies d built.leaves_in_loops lt)
         (let counted = built.tokens_counted in omega (arith, counted, tokens_within p.bodies d lt));
   }

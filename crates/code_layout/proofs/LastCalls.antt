@@ -13,12 +13,12 @@ use Rattle.forth_program.specs.Form.{everywhere, has_id_below, calls_go_back, le
 use Rattle.word_laws.specs.Numbers.{number_cells}
 use Rattle.word_laws.specs.Standing.{StandIn, CellsStand}
 use Rattle.code_layout.specs.Numbering.{library_number}
-use Rattle.code_layout.specs.Layout.{Routine, Definition, Library, Executing, Aborting, type_routine, jump_to, branch_to, call_to, return_cell, body_size, body_cells, bodies_cells, begins_at, bodies_size, execute_cells, abort_cells, word_token_cells, word_token_place, token_cells, token_size, tokens_cells, token_place, token_jumps, library_place, execute_place, abort_place, first_place, tokens_place, place_of, laid_out}
+use Rattle.code_layout.specs.Layout.{Routine, Definition, Library, Executing, Aborting, type_routine, jump_to, branch_to, call_to, return_cell, body_size, body_cells, bodies_cells, begins_at, bodies_size, execute_cells, abort_cells, word_token_cells, word_token_place, token_cells, token_size, tokens_cells, token_place, token_jumps, library_place, execute_place, abort_place, first_place, tokens_place, routine_place, laid_out}
 use Rattle.code_layout.specs.Built.{is_laid_out, IsBuilt}
 use Rattle.code_layout.specs.Library.{each_uses_earlier, IsLibrary}
-use Rattle.code_layout.specs.LastCalls.{IsReturn, IsCall, LastCalls, begins_well, all_begin_well}
+use Rattle.code_layout.specs.LastCalls.{IsReturn, IsCallCell, LastCalls, begins_well, all_begin_well}
 use Rattle.code_layout.proofs.Machine.{both}
-use Rattle.code_layout.proofs.Laying.{body_size_is, token_size_is, cut, onward}
+use Rattle.code_layout.proofs.LaidCode.{body_size_is, token_size_is, cut, onward}
 use Rattle.code_layout.proofs.Image.{begins_low, bodies_size_is, jumps_length}
 use Rattle.code_layout.proofs.Followed.{Later, MayFollow, CallsFollowed, call_is, jump_is, is_jump, is_branch, is_no_call, followed_join, other_cell, no_calls}
 use Rattle.code_layout.proofs.CallsFollowed.{words_have_no_calls, numbers_have_no_calls, body_followed}
@@ -139,42 +139,42 @@ module _ (cells_stand : CellsStand) (library : List Nodes) (p : SourceProgram) (
   cells = (laid_out library p).cells
 
   abbrev place : Routine → ℕ
-  place = place_of library p
+  place = routine_place library p
 
   abbrev jumps : List ℕ
-  jumps = token_jumps (place_of library p) (tokens_place library p) p.tokens
+  jumps = token_jumps (routine_place library p) (tokens_place library p) p.tokens
 
   abbrev of_library : List ℕ
-  of_library = bodies_cells p.data_start (place_of library p) (library_place p) library
+  of_library = bodies_cells p.data_start (routine_place library p) (library_place p) library
 
   abbrev of_execute : List ℕ
   of_execute = execute_cells (execute_place library p) (length p.tokens)
 
   abbrev of_abort : List ℕ
-  of_abort = abort_cells (abort_place library p) (place_of library p type_routine)
+  of_abort = abort_cells (abort_place library p) (routine_place library p type_routine)
 
   abbrev of_program : List ℕ
-  of_program = bodies_cells p.data_start (place_of library p) (first_place library p) p.bodies
+  of_program = bodies_cells p.data_start (routine_place library p) (first_place library p) p.bodies
 
   abbrev of_tokens : List ℕ
-  of_tokens = tokens_cells p.data_start (place_of library p) p.tokens
+  of_tokens = tokens_cells p.data_start (routine_place library p) p.tokens
 
-  whole : length (laid_out library p).cells ≡ tokens_place library p + length (tokens_cells p.data_start (place_of library p) p.tokens)
+  whole : length (laid_out library p).cells ≡ tokens_place library p + length (tokens_cells p.data_start (routine_place library p) p.tokens)
   whole =
       omega (
         arith,
         length-append jumps (of_library ++ (of_execute ++ (of_abort ++ (of_program ++ of_tokens)))),
         length-append of_library (of_execute ++ (of_abort ++ (of_program ++ of_tokens))),
         length-append of_program of_tokens,
-        jumps_length (place_of library p) (tokens_place library p) p.tokens,
-        bodies_size_is p.data_start (place_of library p) (library_place p) library,
-        bodies_size_is p.data_start (place_of library p) (first_place library p) p.bodies,
+        jumps_length (routine_place library p) (tokens_place library p) p.tokens,
+        bodies_size_is p.data_start (routine_place library p) (library_place p) library,
+        bodies_size_is p.data_start (routine_place library p) (first_place library p) p.bodies,
       )
 
   short : length (laid_out library p).cells ≤ 8000
   short = let few = built.code_fits in let most = built.data_start.at_most in omega (arith, few, most)
 
-  low : (r : Routine) → place_of library p r < 8192
+  low : (r : Routine) → routine_place library p r < 8192
   low (Definition d) = let h = short in begins_low (first_place library p) 0 p.bodies d (omega (arith, whole))
   low (Library number) = let h = short in begins_low (library_place p) 0 library number (omega (arith, whole))
   low Executing = let h = short in omega (arith, whole)
@@ -191,25 +191,25 @@ module _ (cells_stand : CellsStand) (library : List Nodes) (p : SourceProgram) (
       let h = short in
       let size = whole in
       let fixed = cut cells 1 7 (0x8000 ∷ 0xC004 ∷ 0x6023 ∷ 0 ∷ 0 ∷ 0 ∷ 0 ∷ []) (jumps ++ (of_library ++ (of_execute ++ (of_abort ++ (of_program ++ of_tokens))))) end refl (omega arith) stand.2 in
-      let a = cut cells 8 (length p.tokens) jumps (of_library ++ (of_execute ++ (of_abort ++ (of_program ++ of_tokens)))) end (jumps_length (place_of library p) (tokens_place library p) p.tokens) (omega (arith, h, size)) fixed.1 in
-      let b = cut cells (library_place p) (bodies_size library) of_library (of_execute ++ (of_abort ++ (of_program ++ of_tokens))) end (bodies_size_is p.data_start (place_of library p) (library_place p) library) (omega (arith, h, size)) a.1 in
+      let a = cut cells 8 (length p.tokens) jumps (of_library ++ (of_execute ++ (of_abort ++ (of_program ++ of_tokens)))) end (jumps_length (routine_place library p) (tokens_place library p) p.tokens) (omega (arith, h, size)) fixed.1 in
+      let b = cut cells (library_place p) (bodies_size library) of_library (of_execute ++ (of_abort ++ (of_program ++ of_tokens))) end (bodies_size_is p.data_start (routine_place library p) (library_place p) library) (omega (arith, h, size)) a.1 in
       let c = cut cells (execute_place library p) 15 of_execute (of_abort ++ (of_program ++ of_tokens)) end refl (omega (arith, h, size)) b.1 in
       let d = cut cells (abort_place library p) 15 of_abort (of_program ++ of_tokens) end refl (omega (arith, h, size)) c.1 in
-      let g = cut cells (first_place library p) (bodies_size p.bodies) of_program of_tokens end (bodies_size_is p.data_start (place_of library p) (first_place library p) p.bodies) (omega (arith, h, size)) d.1 in
+      let g = cut cells (first_place library p) (bodies_size p.bodies) of_program of_tokens end (bodies_size_is p.data_start (routine_place library p) (first_place library p) p.bodies) (omega (arith, h, size)) d.1 in
       let one : CallsFollowed cells 0 1 = λ c a b l m. let same : 1 ≡ c + 1 = omega arith in subst (MayFollow cells) same (other_cell cells 1 0x8000 stand.2.0 (omega arith) (λ e. absurd (omega (arith, e)))) in
       let two = no_calls cells 1 7 (0x8000 ∷ 0xC004 ∷ 0x6023 ∷ 0 ∷ 0 ∷ 0 ∷ 0 ∷ []) 8 refl refl (omega arith) fixed.0 in
-      let three = no_calls cells 8 (length p.tokens) jumps (library_place p) (jumps_have_none p.data_start (place_of library p) low (tokens_place library p) p.tokens (omega (arith, h, size))) (jumps_length (place_of library p) (tokens_place library p) p.tokens) (omega (arith, h, size)) a.0 in
-      let words_size = bodies_size_is p.data_start (place_of library p) (library_place p) library in
-      let defined_size = bodies_size_is p.data_start (place_of library p) (first_place library p) p.bodies in
-      let four = library_followed cells p.data_start (place_of library p) low (library_place p) 0 (execute_place library p) library (λ k lt. absurd (omega arith)) (λ k lt. ap (λ k. place_of library p (Library k)) (zero_plus k)) form.items library_well form.leaves_in_loops b.0 (omega (arith, h, size, words_size)) in
-      let five = execute_followed cells p.data_start (place_of library p) low (execute_place library p) (length p.tokens) (abort_place library p) (omega (arith, h, size)) (omega (arith, h, size)) c.0 in
-      let six = abort_followed cells p.data_start (place_of library p) low (abort_place library p) (place_of library p type_routine) (first_place library p) (low type_routine) (omega (arith, h, size)) d.0 in
+      let three = no_calls cells 8 (length p.tokens) jumps (library_place p) (jumps_have_none p.data_start (routine_place library p) low (tokens_place library p) p.tokens (omega (arith, h, size))) (jumps_length (routine_place library p) (tokens_place library p) p.tokens) (omega (arith, h, size)) a.0 in
+      let words_size = bodies_size_is p.data_start (routine_place library p) (library_place p) library in
+      let defined_size = bodies_size_is p.data_start (routine_place library p) (first_place library p) p.bodies in
+      let four = library_followed cells p.data_start (routine_place library p) low (library_place p) 0 (execute_place library p) library (λ k lt. absurd (omega arith)) (λ k lt. ap (λ k. routine_place library p (Library k)) (zero_plus k)) form.items library_well form.leaves_in_loops b.0 (omega (arith, h, size, words_size)) in
+      let five = execute_followed cells p.data_start (routine_place library p) low (execute_place library p) (length p.tokens) (abort_place library p) (omega (arith, h, size)) (omega (arith, h, size)) c.0 in
+      let six = abort_followed cells p.data_start (routine_place library p) low (abort_place library p) (routine_place library p type_routine) (first_place library p) (low type_routine) (omega (arith, h, size)) d.0 in
       let begin = both (list_all (everywhere begins_well) p.bodies) (list_all begins_well p.tokens) well in
-      let seven = bodies_followed cells p.data_start (place_of library p) low (length library) (length p.bodies) (first_place library p) (λ k lt. let m = begins_before (library_place p) library k lt in omega (arith, m)) (omega arith) (first_place library p) 0 (tokens_place library p) p.bodies (omega arith)
-      (λ d lt. absurd (omega arith)) (λ k lt. ap (λ k. place_of library p (Definition k)) (zero_plus k)) built.items back begin.0 built.leaves_in_loops g.0 (omega (arith, h, size, defined_size)) in
-      let eight = no_calls cells (tokens_place library p) (length of_tokens) of_tokens end (tokens_have_none p.data_start (place_of library p) low p.tokens) refl (omega (arith, h, size)) g.1 in
-      let words_end : library_place p + length (bodies_cells p.data_start (place_of library p) (library_place p) library) ≡ execute_place library p = omega (arith, words_size) in
-      let program_end : first_place library p + length (bodies_cells p.data_start (place_of library p) (first_place library p) p.bodies) ≡ tokens_place library p = omega (arith, defined_size) in
+      let seven = bodies_followed cells p.data_start (routine_place library p) low (length library) (length p.bodies) (first_place library p) (λ k lt. let m = begins_before (library_place p) library k lt in omega (arith, m)) (omega arith) (first_place library p) 0 (tokens_place library p) p.bodies (omega arith)
+      (λ d lt. absurd (omega arith)) (λ k lt. ap (λ k. routine_place library p (Definition k)) (zero_plus k)) built.items back begin.0 built.leaves_in_loops g.0 (omega (arith, h, size, defined_size)) in
+      let eight = no_calls cells (tokens_place library p) (length of_tokens) of_tokens end (tokens_have_none p.data_start (routine_place library p) low p.tokens) refl (omega (arith, h, size)) g.1 in
+      let words_end : library_place p + length (bodies_cells p.data_start (routine_place library p) (library_place p) library) ≡ execute_place library p = omega (arith, words_size) in
+      let program_end : first_place library p + length (bodies_cells p.data_start (routine_place library p) (first_place library p) p.bodies) ≡ tokens_place library p = omega (arith, defined_size) in
       let last : tokens_place library p + length of_tokens ≡ length cells = sym whole in
       followed_join cells 0 1 (length cells) one (followed_join cells 1 8 (length cells) two (followed_join cells 8 (library_place p) (length cells) three
       (followed_join cells (library_place p) (execute_place library p) (length cells) (subst (CallsFollowed cells (library_place p)) words_end four)
@@ -220,7 +220,7 @@ module _ (cells_stand : CellsStand) (library : List Nodes) (p : SourceProgram) (
       zero_plus k = omega arith
 
   -- what may stand behind a call, by instructions
-  follows : (at : ℕ) → IsCall cells at → suc at < length cells → MayFollow cells (suc at)
+  follows : (at : ℕ) → IsCallCell cells at → suc at < length cells → MayFollow cells (suc at)
   follows at call lt =
       let c = call_is (slice_index cells at) call.0 call.1 in
       let same : at + 1 ≡ suc at = omega arith in

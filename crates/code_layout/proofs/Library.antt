@@ -11,13 +11,13 @@ use Rattle.forth_program.specs.State.{Entry, Cell, Loop, Todo, World, State, Rep
 use Rattle.forth_program.specs.Program.{SourceProgram}
 use Rattle.forth_program.specs.Form.{everywhere, leaves_fit}
 use Rattle.forth_program.specs.Meaning.{meaning}
-use Rattle.forth_program.specs.Step.{before, first, on_cells}
+use Rattle.forth_program.specs.Step.{before, first_work, on_cells}
 use Rattle.forth_program.specs.Run.{steps, end_of, lacks}
 use Rattle.word_laws.specs.Rings.{OpenConfiguration}
 use Rattle.forth_program.specs.Cells.{AreCells, AreEntries, IsWorld}
-use Rattle.word_laws.specs.Standing.{return_places, counted, machine_end}
+use Rattle.word_laws.specs.Standing.{return_places, standing_at_depths, machine_end}
 use Rattle.code_layout.specs.Numbering.{library_number}
-use Rattle.code_layout.specs.Layout.{Library, place_of}
+use Rattle.code_layout.specs.Layout.{Library, routine_place}
 use Rattle.forth_program.specs.SourceTokens.{all_tokens}
 use Rattle.code_layout.specs.Built.{is_laid_out, IsBuilt}
 use Rattle.forth_program.specs.Heights.{entries_height, callers_height, return_height, peak_of, back_of, execute_back, StepsFit, DepthFits, DepthsFit}
@@ -64,9 +64,9 @@ module _ (laws : Laws) (library : List Nodes) (p : SourceProgram) (built : IsBui
   none_called : AllStand laws alone code places (code_size laws library p built)
   none_called = record { halt = halt_stands laws library p built; bodies = λ d lt. absurd (omega arith) }
 
-  module _ (word : Word) (number : ℕ) (is : library_number word ≡ Some number) (lt : number < length library) (items : everywhere is_own (slice_index_or library number Empty) ≡ true) (stands : Stands code places alone None (place_of library p (Library number)) (before (slice_index_or library number Empty) [])) where
+  module _ (word : Word) (number : ℕ) (is : library_number word ≡ Some number) (lt : number < length library) (items : everywhere is_own (slice_index_or library number Empty) ≡ true) (stands : Stands code places alone None (routine_place library p (Library number)) (before (slice_index_or library number Empty) [])) where
     abbrev at : ℕ
-    at = place_of library p (Library number)
+    at = routine_place library p (Library number)
 
     abbrev body : Nodes
     body = slice_index_or library number Empty
@@ -79,7 +79,7 @@ module _ (laws : Laws) (library : List Nodes) (p : SourceProgram) (built : IsBui
       start = record { work = before body []; entries = es; callers = []; cells = c; world = w }
 
       abbrev there : OpenConfiguration
-      there = counted code at c (places_below es) data_above return_above w
+      there = standing_at_depths code at c (places_below es) data_above return_above w
 
       abbrev high : ℕ
       high = length c + (entry_of word).peak
@@ -110,17 +110,17 @@ module _ (laws : Laws) (library : List Nodes) (p : SourceProgram) (built : IsBui
         within j t early e =
             let d = state_of j t early e in
             let f = m.within_stacks j d.state early d.reached in
-            let cells = subst (λ fs. length d.state.cells + peak_of fs (first d.state.work) ≤ high) (sym d.callers) f.cells in
+            let cells = subst (λ fs. length d.state.cells + peak_of fs (first_work d.state.work) ≤ high) (sym d.callers) f.cells in
             let returns = f.returns in
             let height = ap callers_height d.callers in
             let none = own_execute alone d.state.work d.state.cells f.busy d.own in
-            subst (λ x. (length x.cells + peak_of x.callers (first x.work) ≤ high) × (return_height x + back_of (first x.work) ≤ return_high) × (return_height x + execute_back alone (first x.work) x.cells ≤ return_high)) (sym d.is)
+            subst (λ x. (length x.cells + peak_of x.callers (first_work x.work) ≤ high) × (return_height x + back_of (first_work x.work) ≤ return_high) × (return_height x + execute_back alone (first_work x.work) x.cells ≤ return_high)) (sym d.is)
             (cells, omega (arith, returns, height, heights_join d.state.entries es, places_height es (Some 2 ∷ [])), omega (arith, returns, height, none, heights_join d.state.entries es, places_height es (Some 2 ∷ [])))
 
         depths : DepthsFit alone m.count start
         depths j t early e =
             let d = state_of j t early e in
-            subst (λ x. DepthFits (first x.work) x.cells) (sym d.is) (own_depth d.state.work d.state.cells (m.within_stacks j d.state early d.reached).busy d.own)
+            subst (λ x. DepthFits (first_work x.work) x.cells) (sym d.is) (own_depth d.state.work d.state.cells (m.within_stacks j d.state early d.reached).busy d.own)
 
         price : spent alone 2 m.count start ≡ spent alone 2 m.count (body_begins body c w)
         price = (runs_deeper es alone m.count 2 (body_begins body c w) own (busy m) sound).costs
@@ -156,7 +156,7 @@ module _ (laws : Laws) (library : List Nodes) (p : SourceProgram) (built : IsBui
             to = stood.to;
             above = stood.data_above;
             above' = stood.return_above;
-            runs = record { makes = stood.is ∙ ap (λ b. counted code stood.to c' (return_places es b) stood.data_above stood.return_above w') stood.meets.frames; bounds = r.before high return_high (within m balances) };
+            runs = record { makes = stood.is ∙ ap (λ b. standing_at_depths code stood.to c' (return_places es b) stood.data_above stood.return_above w') stood.meets.frames; bounds = r.before high return_high (within m balances) };
             returns = stood.meets.stands;
             cheap = omega (arith, paid, least, same);
             few = subst (FewLeft high) e (library_few word number c w is);
@@ -201,13 +201,13 @@ module _ (laws : Laws) (library : List Nodes) (p : SourceProgram) (built : IsBui
     }
 
   -- by induction on their numbers
-  routines_below : (n : ℕ) (word : Word) (number : ℕ) → library_number word ≡ Some number → number < n → number < length library → IsRoutine p.data_start code word (place_of library p (Library number))
+  routines_below : (n : ℕ) (word : Word) (number : ℕ) → library_number word ≡ Some number → number < n → number < length library → IsRoutine p.data_start code word (routine_place library p (Library number))
   routines_below zero word number is lt lt' = absurd (omega arith)
   routines_below (suc n) word number is lt lt' =
       let from_zero : 0 + number ≡ number = omega arith in
       is_routine word number is lt' (test_of (everywhere is_own) library number form.own_items lt')
-      (body_stands code (place_of library p) alone false number (λ word' number' is' below. routines_below n word' number' is' (omega arith) (omega arith)) (λ e. absurd (let f : false ≡ true = e in cc)) (λ e. absurd (let f : false ≡ true = e in cc)) (low laws library p built) (place_of library p (Library number)) (slice_index_or library number Empty)
+      (body_stands code (routine_place library p) alone false number (λ word' number' is' below. routines_below n word' number' is' (omega arith) (omega arith)) (λ e. absurd (let f : false ≡ true = e in cc)) (λ e. absurd (let f : false ≡ true = e in cc)) (low laws library p built) (routine_place library p (Library number)) (slice_index_or library number Empty)
       (library_code laws library p built number lt') (subst (λ n. everywhere (is_laid_out false n 0) (slice_index_or library number Empty) ≡ true) from_zero (earlier_words 0 library number form.items lt')) (test_of (leaves_fit false) library number form.leaves_in_loops lt') (tokens_within library number lt'))
 
-  pub routines : (word : Word) (number : ℕ) → library_number word ≡ Some number → number < length library → IsRoutine p.data_start code word (place_of library p (Library number))
+  pub routines : (word : Word) (number : ℕ) → library_number word ≡ Some number → number < length library → IsRoutine p.data_start code word (routine_place library p (Library number))
   routines word number is lt = routines_below (suc number) word number is (omega arith) lt

@@ -6,7 +6,7 @@ use Rattle.cell_math.specs.Cell.{sum_of, difference_of, signed, flag}
 use Rattle.word_table.specs.declared.word.Word.TheVariants.{Swap, Dup, DropTop, Over, Plus, OnePlus, Invert, Xor, And, ZeroLess, ToR, RFrom}
 use Rattle.j1_table.specs.declared.instr.Instr.TheVariants.{Jump, Branch}
 use Rattle.j1_simulator.specs.Effect.{following}
-use Rattle.j1_simulator.specs.OpenMachine.{first as top}
+use Rattle.j1_simulator.specs.OpenMachine.{top_cell as top}
 use Rattle.forth_program.specs.Tree.{Nodes, Do}
 use Rattle.forth_program.specs.State.{Entry, Cell, Loop, Work, Todo, TrueEnd, UntilTest, WhileTest, Repeat, BeginAgain, Turn, OfTest, EndOf, EndCase, Frame, World, State, Goes}
 use Rattle.forth_program.specs.Program.{SourceProgram}
@@ -16,14 +16,14 @@ use Rattle.forth_program.specs.Heights.{peak_of}
 use Rattle.forth_program.specs.Step.{IsTurn, before, loop_begins, turned, turn, after_loop, leave}
 use Rattle.word_laws.specs.Rings.{OpenConfiguration}
 use Rattle.forth_program.specs.Cells.{AreCells, AreEntries, IsWorld}
-use Rattle.word_laws.specs.Control.{Holds}
+use Rattle.word_laws.specs.Control.{HoldsInstruction}
 use Rattle.word_laws.specs.Standing.{data_places, return_places, standing_as, StandIn}
 use Rattle.code_layout.specs.Layout.{do_cells, out_cells, loop_cells, plus_loop_cells}
 use Rattle.forth_program.specs.SourceTokens.{tokens_of}
 use Rattle.code_layout.proofs.Work.{ahead, unfinished, Placed, Stands, Loops, loops_before, stands_to, Frames}
 use Rattle.code_layout.proofs.Machine.{Laws, Runs, runs_then, runs_one}
 use Rattle.code_layout.proofs.Phrases.{phrase_runs}
-use Rattle.code_layout.proofs.Crossing.{signs, one_crosses, signs_cross}
+use Rattle.code_layout.proofs.LoopBoundary.{signs, one_crosses, signs_cross}
 use Rattle.code_layout.proofs.Steps.{Comes, Follows, comes}
 
 begun : (start limit : ℕ) → start < 65536 → limit < 65536 → sum_of (sum_of start (65535 - limit)) 1 ≡ difference_of start limit
@@ -68,19 +68,19 @@ module _ (laws : Laws) (p : SourceProgram) (code : List ℕ) (place : ℕ → �
       (with_cells [] (Cell (sum_of step x) ∷ Cell l ∷ es) (flag (int_lt (signed (signs x step)) (pos 0)) ∷ c)) pc test data_above return_above refl refl (grind arith) stands fc fe fits starts
 
   -- a branch on a cell
-  pub branches : (target test v : ℕ) (es : List Entry) (c : List ℕ) (data_above return_above : List (Option ℕ)) → v ≡ 0 → Holds code test (Branch target) → length c + 1 ≤ high → length (return_places es base) ≤ return_high →
+  pub branches : (target test v : ℕ) (es : List Entry) (c : List ℕ) (data_above return_above : List (Option ℕ)) → v ≡ 0 → HoldsInstruction code test (Branch target) → length c + 1 ≤ high → length (return_places es base) ≤ return_high →
       Runs p.data_start high return_high 1 (at test es (v ∷ c) data_above return_above) (at target es c (top (data_places c) ∷ data_above) return_above)
   branches target test zero es c data_above return_above e holds room back =
       runs_one laws p.data_start (suc (length c)) (length (return_places es base)) high return_high (at test es (0 ∷ c) data_above return_above) _ (omega arith) back (laws.branches p.data_start target test code c (return_places es base) data_above return_above world holds)
   branches target test (suc n) es c data_above return_above e holds room back = absurd (omega arith)
 
-  pub passes : (target test v : ℕ) (es : List Entry) (c : List ℕ) (data_above return_above : List (Option ℕ)) → v ≢ 0 → Holds code test (Branch target) → length c + 1 ≤ high → length (return_places es base) ≤ return_high →
+  pub passes : (target test v : ℕ) (es : List Entry) (c : List ℕ) (data_above return_above : List (Option ℕ)) → v ≢ 0 → HoldsInstruction code test (Branch target) → length c + 1 ≤ high → length (return_places es base) ≤ return_high →
       Runs p.data_start high return_high 1 (at test es (v ∷ c) data_above return_above) (at (following test) es c (top (data_places c) ∷ data_above) return_above)
   passes target test zero es c data_above return_above e holds room back = absurd (e refl)
   passes target test (suc n) es c data_above return_above e holds room back =
       runs_one laws p.data_start (suc (length c)) (length (return_places es base)) high return_high (at test es (suc n ∷ c) data_above return_above) _ (omega arith) back (laws.passes p.data_start target test n code c (return_places es base) data_above return_above world holds)
 
-  pub jumps : (target pc : ℕ) (es : List Entry) (c : List ℕ) (data_above return_above : List (Option ℕ)) → Holds code pc (Jump target) → length c ≤ high → length (return_places es base) ≤ return_high →
+  pub jumps : (target pc : ℕ) (es : List Entry) (c : List ℕ) (data_above return_above : List (Option ℕ)) → HoldsInstruction code pc (Jump target) → length c ≤ high → length (return_places es base) ≤ return_high →
       Runs p.data_start high return_high 1 (at pc es c data_above return_above) (at target es c data_above return_above)
   jumps target pc es c data_above return_above holds room back =
       runs_one laws p.data_start (length c) (length (return_places es base)) high return_high (at pc es c data_above return_above) _ room back (laws.jumps p.data_start target pc code c (return_places es base) data_above return_above world holds)
@@ -132,7 +132,7 @@ module _ (laws : Laws) (p : SourceProgram) (code : List ℕ) (place : ℕ → �
           starts = starts;
         })
 
-    pub leave_follows : (out : Option ℕ) (out_at : ℕ) (w u : List Work) (es : List Entry) (c : List ℕ) → out ≡ Some out_at → Holds code pc (Jump out_at) → Loops code place p out w → AreEntries es → AreCells c →
+    pub leave_follows : (out : Option ℕ) (out_at : ℕ) (w u : List Work) (es : List Entry) (c : List ℕ) → out ≡ Some out_at → HoldsInstruction code pc (Jump out_at) → Loops code place p out w → AreEntries es → AreCells c →
         length c + 1 ≤ high → length (return_places es base) ≤ return_high → Follows laws p code place size (at pc es c data_above return_above) 5 now high return_high (leave w es (with_cells u es c))
     leave_follows out out_at w u [] c e holds l fe fc room back = tt
     leave_follows out out_at w u (Cell x ∷ es) c e holds l fe fc room back = tt

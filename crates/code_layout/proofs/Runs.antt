@@ -6,7 +6,7 @@ use Rattle.forth_program.specs.Tree.{Node}
 use Rattle.forth_program.specs.State.{Work, Todo, World, State, End, Halted, InputEnded, Outside, Underflow, Unbalanced, Outcome, Goes, Ends}
 use Rattle.forth_program.specs.Program.{SourceProgram}
 use Rattle.forth_program.specs.Tail.{ends_body}
-use Rattle.forth_program.specs.Step.{first, step}
+use Rattle.forth_program.specs.Step.{first_work, step}
 use Rattle.forth_program.specs.Run.{steps, end_of, lacks}
 use Rattle.forth_program.specs.Price.{step_price, spent}
 use Rattle.word_laws.specs.Rings.{OpenConfiguration, BeforeEach}
@@ -17,7 +17,7 @@ use Rattle.code_layout.specs.Agreement.{Shows}
 use Rattle.code_layout.proofs.Work.{places_height, callers_fit, ahead, unfinished, Meets}
 use Rattle.code_layout.proofs.Machine.{Laws, Runs, narrower, wider, runs_then}
 use Rattle.code_layout.proofs.Steps.{Comes, Halts, Follows, halts_after, AllStand}
-use Rattle.code_layout.proofs.Hands.{Executes}
+use Rattle.code_layout.proofs.ExecuteStep.{Executes}
 use Rattle.code_layout.proofs.FirstSteps.{step_follows}
 
 module _ (p : SourceProgram) (s : State) (k total : ℕ) where
@@ -143,10 +143,10 @@ module _ (laws : Laws) (p : SourceProgram) (code : List ℕ) (place : ℕ → �
     from = standing_as s code pc base data_above return_above
 
     abbrev high : ℕ
-    high = length s.cells + peak_of s.callers (first s.work)
+    high = length s.cells + peak_of s.callers (first_work s.work)
 
     abbrev return_high : ℕ
-    return_high = length (return_places s.entries base) + back_of (first s.work)
+    return_high = length (return_places s.entries base) + back_of (first_work s.work)
 
     fits : (k high' return_high' : ℕ) → StepsFit p high' return_high' (suc k) s → (high ≤ high') × (return_high ≤ return_high')
     fits k high' return_high' fit = let f = fit 0 s (omega arith) (no_steps p s) in (f.0, (let g = f.1 in omega (arith, g, height_is out pc s base m)))
@@ -168,7 +168,7 @@ module _ (laws : Laws) (p : SourceProgram) (code : List ℕ) (place : ℕ → �
         ends_at (suc k) total (step_price s) (ahead s.work + unfinished s.callers) s from high return_high (Outside address) world (steps_end p s k total (Outside address) world e) (spent_end p s k total (Outside address) world e) c (fits k)
 
     -- EXECUTE, and then the item of its token
-    module _ (x : Executes laws p code place size all from (step_price s) (ahead s.work + unfinished s.callers) high return_high (first s.work) s.cells s.entries base (step p s)) where
+    module _ (x : Executes laws p code place size all from (step_price s) (ahead s.work + unfinished s.callers) high return_high (first_work s.work) s.cells s.entries base (step p s)) where
       twice_on : (k : ℕ) (after : State) → step p x.after ≡ Goes after → steps p (suc (suc k)) s ≡ steps p k after
       twice_on k after e = steps_on p s (suc k) total x.after x.is ∙ steps_on p x.after k total after e
 
@@ -259,11 +259,11 @@ module _ (laws : Laws) (p : SourceProgram) (code : List ℕ) (place : ℕ → �
 
       -- what both take
       abbrev back_of_item : ℕ
-      back_of_item = length (return_places s.entries base) + address_height (ends_body x.then_work) + back_of (first x.after.work)
+      back_of_item = length (return_places s.entries base) + address_height (ends_body x.then_work) + back_of (first_work x.after.work)
 
       twice : (k : ℕ) → lacks (steps p (suc (suc k)) s) ≡ false → DepthsFit p (suc (suc k)) s → RunsOf k → Reaches (suc (suc k)) total (ahead s.work + unfinished s.callers) s from
       twice k sound depths later =
-          let top = max high (length x.after.cells + peak_of x.after.callers (first x.after.work)) in
+          let top = max high (length x.after.cells + peak_of x.after.callers (first_work x.after.work)) in
           let return_top = max return_high back_of_item in
           both_followed top return_top (omega arith) (omega arith) k sound depths later
           (λ high' return_high' fit.
@@ -283,7 +283,7 @@ module _ (laws : Laws) (p : SourceProgram) (code : List ℕ) (place : ℕ → �
       ⊎_elim (λ f. followed total pc out s base data_above return_above m k sound depths here (step p s) refl f) (λ x. executing k earlier sound depths x) (step_follows laws p code place size all out pc s base data_above return_above m (depths 0 s (omega arith) (no_steps p s)))
     where
       executing : (k : ℕ) → ((j : ℕ) → suc j ≡ k → RunsOf j) → lacks (steps p (suc k) s) ≡ false → DepthsFit p (suc k) s →
-          Executes laws p code place size all (standing_as s code pc base data_above return_above) (step_price s) (ahead s.work + unfinished s.callers) (length s.cells + peak_of s.callers (first s.work)) (length (return_places s.entries base) + back_of (first s.work)) (first s.work) s.cells s.entries base (step p s) →
+          Executes laws p code place size all (standing_as s code pc base data_above return_above) (step_price s) (ahead s.work + unfinished s.callers) (length s.cells + peak_of s.callers (first_work s.work)) (length (return_places s.entries base) + back_of (first_work s.work)) (first_work s.work) s.cells s.entries base (step p s) →
           Reaches (suc k) total (ahead s.work + unfinished s.callers) s (standing_as s code pc base data_above return_above)
       executing zero earlier sound depths x = executed total pc out s base data_above return_above m x sound
       executing (suc k) earlier sound depths x = twice total pc out s base data_above return_above m x k sound depths (earlier k refl)

@@ -7,7 +7,7 @@ use Rattle.forth_program.specs.Tree.{Node, Nodes, Literal, Plain, Call, Child, T
 use Rattle.forth_program.specs.Tail.{is_tail}
 use Rattle.forth_program.specs.State.{World, State, Halted, Stored, Outcome, Goes, Ends}
 use Rattle.forth_program.specs.Program.{SourceProgram}
-use Rattle.forth_program.specs.Step.{first, step}
+use Rattle.forth_program.specs.Step.{first_work, step}
 use Rattle.forth_program.specs.Price.{spent}
 use Rattle.std.specs.Prelude.{◌≢◌, slice_index_or, ◌≤◌}
 use Rattle.forth_program.specs.Run.{and_then, steps, first_world, first_state, source_run}
@@ -16,11 +16,11 @@ use Rattle.j1_simulator.specs.Step.{By}
 use Rattle.j1_simulator.specs.Run.{open_run}
 use Rattle.forth_program.specs.declared.item.TextKind.TheVariants as text
 use Rattle.word_laws.specs.Numbers.{number_cells}
-use Rattle.code_layout.specs.Layout.{Routine, routine_of, word_falls_through, word_size, word_cells, reaches_end, cell_if, nodes_cells, execute_cells, abort_cells, place_of, header, laid_out}
+use Rattle.code_layout.specs.Layout.{Routine, routine_of, word_falls_through, word_size, word_cells, reaches_end, cell_if, nodes_cells, execute_cells, abort_cells, routine_place, header, laid_out}
 use Rattle.code_layout.specs.Built.{IsBuilt}
-use Rattle.forth_program.specs.Heights.{entries_height, peak_of, back_of, DepthFits, GoesWell}
-use Rattle.code_layout.specs.Library.{IsLibrary, TakesNoMore, BodyMeans}
-use Rattle.code_layout.specs.Agreement.{DoesAsMuch, ImagesAgree}
+use Rattle.forth_program.specs.Heights.{entries_height, peak_of, back_of, DepthFits, IsSafe}
+use Rattle.code_layout.specs.Library.{IsLibrary, BodyTakesNoMore, BodyMeans}
+use Rattle.code_layout.specs.Agreement.{ForwardSimulation, ImagesAgree}
 
 -- a program with these definitions, of which the last is MAIN
 abbrev program : List Nodes → ℕ → ℕ → SourceProgram
@@ -69,7 +69,7 @@ behind cells = execute_cells 8 0 ++ (abort_cells 23 0 ++ cells)
 
 one_line : (body : Nodes) (count : ℕ) → IsLine body → (laid_out [] (program (body ∷ []) 0 count)).cells ≡ 0x4026 ∷ 0x8000 ∷ 0xC004 ∷ 0x6023 ∷ 0 ∷ 0 ∷ 0 ∷ 0 ∷ behind (((line_cells body ++ 0x700C ∷ []) ++ []) ++ [])
 one_line body count line =
-    ap (λ cells. header 38 ++ behind (((cells ++ cell_if (reaches_end true true body) 0x700C) ++ []) ++ [])) (line_is_laid body (place_of [] (program (body ∷ []) 0 count)) 0 38 line)
+    ap (λ cells. header 38 ++ behind (((cells ++ cell_if (reaches_end true true body) 0x700C) ++ []) ++ [])) (line_is_laid body (routine_place [] (program (body ∷ []) 0 count)) 0 38 line)
     ∙ ap (λ reached. header 38 ++ behind (((line_cells body ++ cell_if reached 0x700C) ++ []) ++ [])) (line_falls_through body line)
 
 -- ---- some programs
@@ -323,22 +323,22 @@ each_is P p (suc k) s fits (suc j) t lt e = later (step p s) fits.1 e (λ m fits
     later (Ends end world) fits e onward = absurd (cc)
 
 abbrev DepthIsFit : State → Type 0
-DepthIsFit s = DepthFits (first s.work) s.cells
+DepthIsFit s = DepthFits (first_work s.work) s.cells
 
-two_goes_well : GoesWell two [] 10
+two_goes_well : IsSafe two [] 10
 unfolding two source_run steps step
 two_goes_well = record { lacks_nothing = refl; depth_fits = each_is DepthIsFit two 10 (first_state two []) (search rules) }
 
-two_does_as_much : ImagesAgree → DoesAsMuch [] two [] 10
+two_does_as_much : ImagesAgree → ForwardSimulation [] two [] 10
 unfolding two
-two_does_as_much agree = agree.as_much [] two [] 10 (record { items = refl; own_items = refl; leaves_in_loops = refl }) (λ word number is lt. absurd (omega arith)) two_is_built (search rules) (search rules) two_goes_well
+two_does_as_much agree = agree.forward [] two [] 10 (record { items = refl; own_items = refl; leaves_in_loops = refl }) (λ word number is lt. absurd (omega arith)) two_is_built (search rules) (search rules) two_goes_well
 
 -- ---- a library that means its words
 
 unfoldable AtMost : ℕ → State → Type 0
-AtMost n s = TakesNoMore QDup n s
+AtMost n s = BodyTakesNoMore QDup n s
 
-at_most : (n : ℕ) (s : State) → s.work ≢ [] → length s.cells + peak_of [] (first s.work) ≤ n + 2 → 1 + entries_height s.entries + back_of (first s.work) ≤ 2 → AtMost n s
+at_most : (n : ℕ) (s : State) → s.work ≢ [] → length s.cells + peak_of [] (first_work s.work) ≤ n + 2 → 1 + entries_height s.entries + back_of (first_work s.work) ≤ 2 → AtMost n s
 unfolding AtMost
 at_most n s busy cells returns = record { busy = busy; cells = cells; returns = returns }
 

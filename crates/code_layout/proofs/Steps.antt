@@ -8,7 +8,7 @@ use Rattle.word_table.specs.Table.{entry_of, cells_of, cells_from}
 use Rattle.j1_table.specs.declared.instr.Instr.TheVariants.{Jump, Branch}
 use Rattle.j1_simulator.specs.Effect.{following}
 use Rattle.j1_simulator.specs.Step.{Stop}
-use Rattle.j1_simulator.specs.OpenMachine.{first as top, rest, open_storage}
+use Rattle.j1_simulator.specs.OpenMachine.{top_cell as top, rest, open_storage}
 use Rattle.j1_simulator.specs.Run.{run}
 use Rattle.forth_program.specs.Tail.{ends_body}
 use Rattle.forth_program.specs.State.{Entry, Work, TrueEnd, Frame, World, State, End, Halted, InputEnded, Outside, Underflow, Unbalanced, Outcome, Goes, Ends}
@@ -18,7 +18,7 @@ use Rattle.forth_program.specs.Price.{word_price}
 use Rattle.word_laws.specs.Rings.{OpenConfiguration, BeforeEach}
 use Rattle.word_laws.specs.Bounds.{StaysWithin}
 use Rattle.forth_program.specs.Cells.{AreCells, AreEntries, IsWorld}
-use Rattle.word_laws.specs.Control.{Holds, halt_cells}
+use Rattle.word_laws.specs.Control.{HoldsInstruction, halt_cells}
 use Rattle.word_laws.specs.Numbers.{number_cells, NumberStands}
 use Rattle.word_laws.specs.Standing.{data_places, return_places, standing_as, machine_end, EndedIn, HasCome, StandIn}
 use Rattle.word_laws.specs.Words.{stands_plain, return_need, CellsApply}
@@ -239,7 +239,7 @@ module _ (laws : Laws) (p : SourceProgram) (code : List ℕ) (place : ℕ → �
     word_follows word next w es c (Ends InputEnded world') e plain fit stands s l n fe fc room back = word_halts word next w es c InputEnded world' refl e plain fit stands fe fc room back
     word_follows word next w es c (Ends (Outside address) world') e plain fit stands s l n fe fc room back = word_halts word next w es c (Outside address) world' refl e plain fit stands fe fc room back
 
-    pub jump_follows : (target : ℕ) (out' : Option ℕ) (w : List Work) (es : List Entry) (c : List ℕ) → Holds code pc (Jump target) → Stands code place p out' target w → Loops code place p out' w → AreEntries es → AreCells c →
+    pub jump_follows : (target : ℕ) (out' : Option ℕ) (w : List Work) (es : List Entry) (c : List ℕ) → HoldsInstruction code pc (Jump target) → Stands code place p out' target w → Loops code place p out' w → AreEntries es → AreCells c →
         length c ≤ high → length (return_places es base) ≤ return_high → Comes (There es c) 1 now high return_high (here w es c)
     jump_follows target out' w es c holds s l fe fc room back =
         comes (There es c) 1 target 1 now high return_high out' (here w es c) base data_above return_above (omega arith) (omega arith) due
@@ -291,7 +291,7 @@ module _ (laws : Laws) (p : SourceProgram) (code : List ℕ) (place : ℕ → �
         h.0
 
     -- a decision by the topmost cell
-    pub flag_follows : (target : ℕ) (at_zero other w : List Work) (es : List Entry) (c : List ℕ) → Holds code pc (Branch target) → Stands code place p out target at_zero → Loops code place p out at_zero → Stands code place p out (following pc) other → Loops code place p out other →
+    pub flag_follows : (target : ℕ) (at_zero other w : List Work) (es : List Entry) (c : List ℕ) → HoldsInstruction code pc (Branch target) → Stands code place p out target at_zero → Loops code place p out at_zero → Stands code place p out (following pc) other → Loops code place p out other →
         AreEntries es → AreCells c → length c ≤ high → length (return_places es base) ≤ return_high → Follows (There es c) 1 now high return_high (on_flag c at_zero other (here w es c))
     flag_follows target at_zero other w es [] holds s l s' l' fe fc room back = tt
     flag_follows target at_zero other w es (zero ∷ c) holds s l s' l' fe fc room back =

@@ -9,11 +9,11 @@ use Rattle.forth_program.specs.State.{Entry, Cell, Loop, Work, Todo, TrueEnd, Un
 use Rattle.forth_program.specs.Tail.{is_tail, ends_body}
 use Rattle.forth_program.specs.Program.{SourceProgram, token_of}
 use Rattle.forth_program.specs.Form.{may_be_token}
-use Rattle.forth_program.specs.Step.{First, BodyEnd, IsLiteral, IsWord, IsCall, IsChild, IsText, IsIf, IsTrueEnd, IsUntil, IsWhile, IsRepeat, IsAgain, IsDo, IsQDo, IsTurn, IsOf, IsEndOf, IsEndCase, IsLeave, IsExit, before, first_in, first_among, first}
+use Rattle.forth_program.specs.Step.{First, BodyEnd, IsLiteral, IsWord, IsCall, IsChild, IsText, IsIf, IsTrueEnd, IsUntil, IsWhile, IsRepeat, IsAgain, IsDo, IsQDo, IsTurn, IsOf, IsEndOf, IsEndCase, IsLeave, IsExit, before, first_in, first_among, first_work}
 use Rattle.forth_program.specs.Cells.{AreCells, AreEntries, IsWorld}
-use Rattle.word_laws.specs.Control.{Holds}
+use Rattle.word_laws.specs.Control.{HoldsInstruction}
 use Rattle.word_laws.specs.Numbers.{number_cells}
-use Rattle.word_laws.specs.Standing.{return_places, counted, StandIn}
+use Rattle.word_laws.specs.Standing.{return_places, standing_at_depths, StandIn}
 use Rattle.word_laws.specs.Words.{stands_plain}
 use Rattle.word_table.specs.declared.word.Word.{Word}
 use Rattle.word_table.specs.declared.word.Word.TheVariants.{Execute, TypeOut}
@@ -56,17 +56,17 @@ places_height (Loop limit index ∷ es) base = omega (arith, places_height es ba
 
 module _ (code : List ℕ) (place : ℕ → ℕ) (p : SourceProgram) where
   abbrev pub Returns : ℕ → Type 0
-  Returns pc = Holds code pc (decoded 0x700C)
+  Returns pc = HoldsInstruction code pc (decoded 0x700C)
 
   -- the end of a turn at a place, where the body and what drops the loop stand
   abbrev pub TurnStands : Bool → ℕ → ℕ → ℕ → Type 0
-  TurnStands false pc body_at out_at = (test : ℕ) × StandIn code pc loop_cells test × Holds code test (Branch out_at) × Holds code (following test) (Jump body_at)
-  TurnStands true pc body_at out_at = (test : ℕ) × StandIn code pc plus_loop_cells test × Holds code test (Branch body_at) × (following test ≡ out_at)
+  TurnStands false pc body_at out_at = (test : ℕ) × StandIn code pc loop_cells test × HoldsInstruction code test (Branch out_at) × HoldsInstruction code (following test) (Jump body_at)
+  TurnStands true pc body_at out_at = (test : ℕ) × StandIn code pc plus_loop_cells test × HoldsInstruction code test (Branch body_at) × (following test ≡ out_at)
 
   -- a call stands at a place: a jump where it is in tail position, and else K holds of where it returns to
   abbrev pub CallStands : Bool → ℕ → ℕ → Type 0 → Type 0
-  CallStands true pc target K = Holds code pc (Jump target)
-  CallStands false pc target K = Holds code pc (CallTo target) × K
+  CallStands true pc target K = HoldsInstruction code pc (Jump target)
+  CallStands false pc target K = HoldsInstruction code pc (CallTo target) × K
 
   -- a DO loop stands at a place, by where its body stands
   abbrev pub LoopStands : (Option ℕ → ℕ → (ℕ → Type 0) → Type 0) → Bool → ℕ → (ℕ → Type 0) → Type 0
@@ -77,11 +77,11 @@ module _ (code : List ℕ) (place : ℕ → ℕ) (p : SourceProgram) where
   -- what ?DO does before its loop: the test, and the way around the loop
   abbrev pub SkipStands : ℕ → ℕ → ℕ → Type 0
   SkipStands pc loop_at end_at =
-      (test : ℕ) × (jump_at : ℕ) × StandIn code pc (0x6181 ∷ 0x6181 ∷ 0x6703 ∷ []) test × Holds code test (Branch loop_at) × StandIn code (following test) (0x6103 ∷ 0x6103 ∷ []) jump_at × Holds code jump_at (Jump end_at)
+      (test : ℕ) × (jump_at : ℕ) × StandIn code pc (0x6181 ∷ 0x6181 ∷ 0x6703 ∷ []) test × HoldsInstruction code test (Branch loop_at) × StandIn code (following test) (0x6103 ∷ 0x6103 ∷ []) jump_at × HoldsInstruction code jump_at (Jump end_at)
 
   -- OF stands at a place, with those of its body and of the other arms
   abbrev pub OfStands : ℕ → ℕ → ℕ → Type 0
-  OfStands pc body_at other_at = (test : ℕ) × StandIn code pc (0x6181 ∷ 0x6703 ∷ []) test × Holds code test (Branch other_at) × StandIn code (following test) (0x6103 ∷ []) body_at
+  OfStands pc body_at other_at = (test : ℕ) × StandIn code pc (0x6181 ∷ 0x6703 ∷ []) test × HoldsInstruction code test (Branch other_at) × StandIn code (following test) (0x6103 ∷ []) body_at
 
   -- a word by its own cells, or by the call of its routine, and K holds of the place where it leads
   abbrev pub PlainStands : Bool → ℕ → Word → (ℕ → Type 0) → Type 0
@@ -96,7 +96,7 @@ module _ (code : List ℕ) (place : ℕ → ℕ) (p : SourceProgram) where
   TokenStands (Literal value) at = (next : ℕ) × (value < 65536) × StandIn code at (number_cells value) next × Returns next
   TokenStands (Plain word) at =
       (may_be_token (Plain word) ≡ true) × (((next : ℕ) × (stands_plain word ≡ true) × StandIn code at (cells_from p.data_start word) next × Returns next) ⊎ IsRoutine p.data_start code word at)
-  TokenStands (Child d address) at = (next : ℕ) × (address < 32768) × StandIn code at (number_cells address) next × (d < length p.bodies) × Holds code next (Jump (place d))
+  TokenStands (Child d address) at = (next : ℕ) × (address < 32768) × StandIn code at (number_cells address) next × (d < length p.bodies) × HoldsInstruction code next (Jump (place d))
   TokenStands node at = ⊥
 
   -- EXECUTE has come to the code of a token, over the same return places
@@ -105,7 +105,7 @@ module _ (code : List ℕ) (place : ℕ → ℕ) (p : SourceProgram) where
     pub at : ℕ
     pub above : List (Option ℕ)
     pub above' : List (Option ℕ)
-    pub runs : Runs p.data_start (length c + 3) (length (places_below es) + 1) count v (counted code at c (places_below es) above above' w)
+    pub runs : Runs p.data_start (length c + 3) (length (places_below es) + 1) count v (standing_at_depths code at c (places_below es) above above' w)
     pub stands : TokenStands node at
     pub some : 1 ≤ count
     pub cheap : count ≤ 20
@@ -113,9 +113,9 @@ module _ (code : List ℕ) (place : ℕ → ℕ) (p : SourceProgram) where
   -- the code at a place does what EXECUTE does
   pub record IsExecutor (at : ℕ) : Type 0 where
     pub finds : (t : ℕ) (node : Node) (c : List ℕ) (es : List Entry) (data_above return_above : List (Option ℕ)) (w : World) → token_of p t ≡ Some node → AreEntries es → AreCells (t ∷ c) → IsWorld w → w.data_start ≡ p.data_start →
-        Found (counted code at (t ∷ c) (places_below es) data_above return_above w) node c es w
+        Found (standing_at_depths code at (t ∷ c) (places_below es) data_above return_above w) node c es w
     pub fails : (t : ℕ) (c : List ℕ) (es : List Entry) (data_above return_above : List (Option ℕ)) (w : World) → token_of p t ≡ None → AreEntries es → AreCells (t ∷ c) → IsWorld w → w.data_start ≡ p.data_start →
-        Stopped p.data_start code (counted code at (t ∷ c) (places_below es) data_above return_above w) 20 (length c + 3) (length (places_below es) + 1) (Halted 13) w
+        Stopped p.data_start code (standing_at_depths code at (t ∷ c) (places_below es) data_above return_above w) 20 (length c + 3) (length (places_below es) + 1) (Halted 13) w
 
   abbrev pub ExecuteStands : Bool → ℕ → Word → (ℕ → Type 0) → Type 0
   ExecuteStands tail pc word K = (word ≡ Execute) × (at : ℕ) × CallStands tail pc at (K (following pc)) × IsExecutor at
@@ -148,18 +148,18 @@ module _ (code : List ℕ) (place : ℕ → ℕ) (p : SourceProgram) where
     Placed out pc tail (Child d address) K = (next : ℕ) × (address < 32768) × StandIn code pc (number_cells address) next × (d < length p.bodies) × CallStands tail next (place d) (K (following next))
     Placed out pc tail (Text kind address characters) K =
         (middle : ℕ) × (next : ℕ) × (address < 32768) × (characters < 32768) × StandIn code pc (number_cells address) middle × StandIn code middle (number_cells characters) next × TextStands tail next kind K
-    Placed out pc tail (If first Empty) K = (next : ℕ) × Holds code pc (Branch next) × AllPlaced out (following pc) tail first K × K next
+    Placed out pc tail (If first Empty) K = (next : ℕ) × HoldsInstruction code pc (Branch next) × AllPlaced out (following pc) tail first K × K next
     Placed out pc tail (If first (Then node rest)) K =
-        (else_at : ℕ) × Holds code pc (Branch else_at) × AllPlaced out (following pc) tail first (λ e. (next : ℕ) × Holds code e (Jump next) × K next) × AllPlaced out else_at tail (Then node rest) K
-    Placed out pc tail (Until body) K = (end : ℕ) × AllPlaced out pc false body (λ e. e ≡ end) × Holds code end (Branch pc) × K (following end)
+        (else_at : ℕ) × HoldsInstruction code pc (Branch else_at) × AllPlaced out (following pc) tail first (λ e. (next : ℕ) × HoldsInstruction code e (Jump next) × K next) × AllPlaced out else_at tail (Then node rest) K
+    Placed out pc tail (Until body) K = (end : ℕ) × AllPlaced out pc false body (λ e. e ≡ end) × HoldsInstruction code end (Branch pc) × K (following end)
     Placed out pc tail (While test body) K =
-        (test_end : ℕ) × (body_end : ℕ) × (next : ℕ) × AllPlaced out pc false test (λ e. e ≡ test_end) × Holds code test_end (Branch next) × AllPlaced out (following test_end) false body (λ e. e ≡ body_end) × Holds code body_end (Jump pc) × K next
-    Placed out pc tail (Again body) K = (end : ℕ) × AllPlaced out pc false body (λ e. e ≡ end) × Holds code end (Jump pc)
+        (test_end : ℕ) × (body_end : ℕ) × (next : ℕ) × AllPlaced out pc false test (λ e. e ≡ test_end) × HoldsInstruction code test_end (Branch next) × AllPlaced out (following test_end) false body (λ e. e ≡ body_end) × HoldsInstruction code body_end (Jump pc) × K next
+    Placed out pc tail (Again body) K = (end : ℕ) × AllPlaced out pc false body (λ e. e ≡ end) × HoldsInstruction code end (Jump pc)
     Placed out pc tail (Do body plus) K = LoopStands (λ out q. AllPlaced out q false body) plus pc K
     Placed out pc tail (QDo body plus) K = (loop_at : ℕ) × (end_at : ℕ) × SkipStands pc loop_at end_at × K end_at × LoopStands (λ out q. AllPlaced out q false body) plus loop_at K
     Placed out pc tail (Case arms rest) K =
         ArmsPlaced out pc tail arms K (λ q. (drop_at : ℕ) × (next : ℕ) × AllPlaced out q false rest (λ e. e ≡ drop_at) × StandIn code drop_at end_case_cells next × K next)
-    Placed out pc tail Leave K = (out_at : ℕ) × (out ≡ Some out_at) × Holds code pc (Jump out_at)
+    Placed out pc tail Leave K = (out_at : ℕ) × (out ≡ Some out_at) × HoldsInstruction code pc (Jump out_at)
     Placed out pc tail Exit K = Returns pc
 
     pub AllPlaced : Option ℕ → ℕ → Bool → Nodes → (ℕ → Type 0) → Type 0
@@ -170,7 +170,7 @@ module _ (code : List ℕ) (place : ℕ → ℕ) (p : SourceProgram) where
     pub ArmsPlaced : Option ℕ → ℕ → Bool → Arms → (ℕ → Type 0) → (ℕ → Type 0) → Type 0
     ArmsPlaced out pc tail NoArm K L = L pc
     ArmsPlaced out pc tail (Arm tests body others) K L =
-        (of_at : ℕ) × (body_at : ℕ) × (other_at : ℕ) × AllPlaced out pc false tests (λ e. e ≡ of_at) × OfStands of_at body_at other_at × AllPlaced out body_at tail body (λ e. (end_at : ℕ) × Holds code e (Jump end_at) × K end_at)
+        (of_at : ℕ) × (body_at : ℕ) × (other_at : ℕ) × AllPlaced out pc false tests (λ e. e ≡ of_at) × OfStands of_at body_at other_at × AllPlaced out body_at tail body (λ e. (end_at : ℕ) × HoldsInstruction code e (Jump end_at) × K end_at)
         × ArmsPlaced out other_at tail others K L
 
   -- a weaker condition on where it leads
@@ -186,7 +186,7 @@ module _ (code : List ℕ) (place : ℕ → ℕ) (p : SourceProgram) where
     placed_more (If first (Then node rest)) tail out pc K K' f h = (
       h.0,
       h.1,
-      all_more first tail out (following pc) (λ e. (next : ℕ) × Holds code e (Jump next) × K next) (λ e. (next : ℕ) × Holds code e (Jump next) × K' next) (λ e k. (k.0, k.1, f k.0 k.2)) h.2,
+      all_more first tail out (following pc) (λ e. (next : ℕ) × HoldsInstruction code e (Jump next) × K next) (λ e. (next : ℕ) × HoldsInstruction code e (Jump next) × K' next) (λ e k. (k.0, k.1, f k.0 k.2)) h.2,
       placed_more node (is_tail rest tail) out h.0 (λ q. AllPlaced out q tail rest K) (λ q. AllPlaced out q tail rest K') (λ q k. all_more rest tail out q K K' f k) h.3,
     )
     placed_more (Until body) tail out pc K K' f h = (h.0, h.1, h.2, f (following h.0) h.3)
@@ -212,16 +212,16 @@ module _ (code : List ℕ) (place : ℕ → ℕ) (p : SourceProgram) where
       h.2,
       h.3,
       h.4,
-      all_more body tail out h.1 (λ e. (end_at : ℕ) × Holds code e (Jump end_at) × K end_at) (λ e. (end_at : ℕ) × Holds code e (Jump end_at) × K' end_at) (λ e k. (k.0, k.1, f k.0 k.2)) h.5,
+      all_more body tail out h.1 (λ e. (end_at : ℕ) × HoldsInstruction code e (Jump end_at) × K end_at) (λ e. (end_at : ℕ) × HoldsInstruction code e (Jump end_at) × K' end_at) (λ e k. (k.0, k.1, f k.0 k.2)) h.5,
       arms_more others tail out h.2 K K' L L' f g h.6,
     )
 
   -- the parts of a WHILE loop
   pub record WhileStands (out : Option ℕ) (begin test_end body_end next : ℕ) (test body : Nodes) : Type 0 where
     pub test_stands : AllPlaced out begin false test (λ e. e ≡ test_end)
-    pub branch : Holds code test_end (Branch next)
+    pub branch : HoldsInstruction code test_end (Branch next)
     pub body_stands : AllPlaced out (following test_end) false body (λ e. e ≡ body_end)
-    pub jump : Holds code body_end (Jump begin)
+    pub jump : HoldsInstruction code body_end (Jump begin)
     pub few : tokens_of test + tokens_of body ≤ p.source_tokens
 
   -- work stands at a place, in a loop that is dropped at `out`. The ends of a true branch and of an arm are jumps, or a return where
@@ -229,15 +229,15 @@ module _ (code : List ℕ) (place : ℕ → ℕ) (p : SourceProgram) where
   abbrev pub Stands : Option ℕ → ℕ → List Work → Type 0
   Stands out pc [] = Returns pc
   Stands out pc (Todo node ∷ w) = Placed out pc (ends_body w) node (λ q. Stands out q w) × (node_tokens node + ahead w ≤ p.source_tokens)
-  Stands out pc (TrueEnd ∷ w) = (((next : ℕ) × Holds code pc (Jump next) × Stands out next w) ⊎ (Returns pc × (ends_body w ≡ true))) × (1 + ahead w ≤ p.source_tokens)
-  Stands out pc (UntilTest body ∷ w) = (begin : ℕ) × Holds code pc (Branch begin) × AllPlaced out begin false body (λ e. e ≡ pc) × Stands out (following pc) w × (tokens_of body ≤ p.source_tokens)
+  Stands out pc (TrueEnd ∷ w) = (((next : ℕ) × HoldsInstruction code pc (Jump next) × Stands out next w) ⊎ (Returns pc × (ends_body w ≡ true))) × (1 + ahead w ≤ p.source_tokens)
+  Stands out pc (UntilTest body ∷ w) = (begin : ℕ) × HoldsInstruction code pc (Branch begin) × AllPlaced out begin false body (λ e. e ≡ pc) × Stands out (following pc) w × (tokens_of body ≤ p.source_tokens)
   Stands out pc (WhileTest test body ∷ w) = (begin : ℕ) × (body_end : ℕ) × (next : ℕ) × WhileStands out begin pc body_end next test body × Stands out next w
   Stands out pc (Repeat test body ∷ w) = (begin : ℕ) × (test_end : ℕ) × (next : ℕ) × WhileStands out begin test_end pc next test body × Stands out next w
-  Stands out pc (BeginAgain body ∷ w) = (begin : ℕ) × Holds code pc (Jump begin) × AllPlaced out begin false body (λ e. e ≡ pc) × (tokens_of body ≤ p.source_tokens)
+  Stands out pc (BeginAgain body ∷ w) = (begin : ℕ) × HoldsInstruction code pc (Jump begin) × AllPlaced out begin false body (λ e. e ≡ pc) × (tokens_of body ≤ p.source_tokens)
   Stands out pc (OfTest body others rest ∷ w) =
-      (body_at : ℕ) × (other_at : ℕ) × OfStands pc body_at other_at × AllPlaced out body_at (ends_body w) body (λ e. (end_at : ℕ) × Holds code e (Jump end_at) × Stands out end_at w)
+      (body_at : ℕ) × (other_at : ℕ) × OfStands pc body_at other_at × AllPlaced out body_at (ends_body w) body (λ e. (end_at : ℕ) × HoldsInstruction code e (Jump end_at) × Stands out end_at w)
       × Placed out other_at (ends_body w) (Case others rest) (λ q. Stands out q w) × (tokens_of body + 1 + ahead w ≤ p.source_tokens) × (node_tokens (Case others rest) + ahead w ≤ p.source_tokens)
-  Stands out pc (EndOf ∷ w) = (((next : ℕ) × Holds code pc (Jump next) × Stands out next w) ⊎ (Returns pc × (ends_body w ≡ true))) × (1 + ahead w ≤ p.source_tokens)
+  Stands out pc (EndOf ∷ w) = (((next : ℕ) × HoldsInstruction code pc (Jump next) × Stands out next w) ⊎ (Returns pc × (ends_body w ≡ true))) × (1 + ahead w ≤ p.source_tokens)
   Stands out pc (EndCase ∷ w) = (next : ℕ) × StandIn code pc end_case_cells next × Stands out next w
   Stands out pc (Turn body plus ∷ w) = (out_at : ℕ) × (body_at : ℕ) × (out ≡ Some out_at) × AllPlaced out body_at false body (λ e. e ≡ pc) × TurnStands plus pc body_at out_at × (tokens_of body ≤ p.source_tokens)
 
@@ -377,7 +377,7 @@ module _ (code : List ℕ) (place : ℕ → ℕ) (p : SourceProgram) where
         record { out = o.out; stands = o.stands; loops = o.loops; fewer = omega (arith, o.fewer, ahead_before rest w) }
 
   -- the first work stands where the work stands
-  pub opens : (out : Option ℕ) (pc : ℕ) (w : List Work) → Stands out pc w → Loops out w → Opens pc (first w) (ahead w)
+  pub opens : (out : Option ℕ) (pc : ℕ) (w : List Work) → Stands out pc w → Loops out w → Opens pc (first_work w) (ahead w)
   opens out pc [] h l = record { out = out; stands = h; loops = l; fewer = omega arith }
   opens out pc (Todo node ∷ w) h l = opens_node node out pc w h.0 l h.1
   opens out pc (TrueEnd ∷ w) h l = record { out = out; stands = h; loops = l; fewer = omega arith }

@@ -15,7 +15,7 @@ use Rattle.forth_program.specs.Tree.{Nodes}
 use Rattle.code_layout.specs.Layout.{laid_out}
 use Rattle.code_layout.specs.Built.{IsBuilt}
 use Rattle.code_layout.specs.Library.{IsLibrary, LibraryMeans}
-use Rattle.forth_program.specs.Heights.{StacksFit, GoesWell}
+use Rattle.forth_program.specs.Heights.{StacksFit, IsSafe}
 
 abbrev pub AreBytes : List ℕ → Type 0
 AreBytes bytes = All (λ byte. byte < 256) bytes
@@ -25,13 +25,13 @@ abbrev pub code_of : List Nodes → SourceProgram → List ℕ
 code_of library p = filled (p.data_start / 2) (laid_out library p).cells
 
 -- the machine's end for where a source is
-abbrev pub stop_of : Outcome → Option Stop
-stop_of (Goes s) = None
-stop_of (Ends end world) = machine_end end
+abbrev pub stop_of_outcome : Outcome → Option Stop
+stop_of_outcome (Goes s) = None
+stop_of_outcome (Ends end world) = machine_end end
 
 -- the machine has the end, the data space, the input left and the prints of a source
 pub record Shows (code : List ℕ) (w : OpenConfiguration) (o : Outcome) : Type 0 where
-  pub stop_is : w.stop ≡ stop_of o
+  pub stop_is : w.stop ≡ stop_of_outcome o
   pub memory : w.core.memory ≡ code ++ (world_of o).space
   pub input : w.input ≡ (world_of o).input
   pub printed : w.printed ≡ (world_of o).printed
@@ -41,7 +41,7 @@ abbrev pub word_steps : SourceProgram → ℕ → ℕ
 word_steps p n = (n + 1) * (p.source_tokens + 4)
 
 -- the image does at least what k word steps do
-pub record DoesAsMuch (library : List Nodes) (p : SourceProgram) (input : List ℕ) (k : ℕ) : Type 0 where
+pub record ForwardSimulation (library : List Nodes) (p : SourceProgram) (input : List ℕ) (k : ℕ) : Type 0 where
   -- in as many instructions as they may cost, or fewer, it comes to show the same
   pub count : ℕ
   pub within_price : count ≤ price p input k
@@ -54,18 +54,18 @@ pub record DoesAsMuch (library : List Nodes) (p : SourceProgram) (input : List �
   pub stacks_before : (high return_high : ℕ) → StacksFit p input high return_high k → BeforeEach (StaysWithin 0 high 0 return_high) p.data_start count (begun (open_start (laid_out library p)) input)
   pub stacks_at_end : (high return_high : ℕ) (end : End) → StacksFit p input high return_high k → end_of (source_run p input k) ≡ Some end → StaysWithin 0 high 0 return_high (open_run (laid_out library p) input count)
 
-abbrev pub ImagesDoAsMuch : Type 0
-ImagesDoAsMuch = (library : List Nodes) (p : SourceProgram) (input : List ℕ) (k : ℕ) → IsLibrary library → LibraryMeans library → IsBuilt library p → AreBytes p.first_space → AreBytes input → GoesWell p input k → DoesAsMuch library p input k
+abbrev pub ImagesSimulateForward : Type 0
+ImagesSimulateForward = (library : List Nodes) (p : SourceProgram) (input : List ℕ) (k : ℕ) → IsLibrary library → LibraryMeans library → IsBuilt library p → AreBytes p.first_space → AreBytes input → IsSafe p input k → ForwardSimulation library p input k
 
 -- what n instructions print is a beginning of what those word steps print, and where they have ended the source has ended alike
-pub record DoesNoMore (library : List Nodes) (p : SourceProgram) (input : List ℕ) (n : ℕ) : Type 0 where
+pub record BackwardSimulation (library : List Nodes) (p : SourceProgram) (input : List ℕ) (n : ℕ) : Type 0 where
   pub prints : IsPrefixOf (open_run (laid_out library p) input n).printed (world_of (source_run p input (word_steps p n))).printed
   pub ends : (stop : Stop) → (open_run (laid_out library p) input n).stop ≡ Some stop → (end : End) × (end_of (source_run p input (word_steps p n)) ≡ Some end) × (machine_end end ≡ Some stop)
 
-abbrev pub ImagesDoNoMore : Type 0
-ImagesDoNoMore = (library : List Nodes) (p : SourceProgram) (input : List ℕ) (n : ℕ) → IsLibrary library → LibraryMeans library → IsBuilt library p → AreBytes p.first_space → AreBytes input → GoesWell p input (word_steps p n) → DoesNoMore library p input n
+abbrev pub ImagesSimulateBackward : Type 0
+ImagesSimulateBackward = (library : List Nodes) (p : SourceProgram) (input : List ℕ) (n : ℕ) → IsLibrary library → LibraryMeans library → IsBuilt library p → AreBytes p.first_space → AreBytes input → IsSafe p input (word_steps p n) → BackwardSimulation library p input n
 
 -- both hold of every built program, with every library that means its words
 pub record ImagesAgree : Type 0 where
-  pub as_much : ImagesDoAsMuch
-  pub no_more : ImagesDoNoMore
+  pub forward : ImagesSimulateForward
+  pub backward : ImagesSimulateBackward

@@ -7,7 +7,8 @@ use Rattle.forth_program.specs.declared.item.TextKind.TheVariants as text
 use Rattle.forth_program.specs.Tree.{Node, Nodes, Literal, Plain, Call, Child, Text}
 use Rattle.forth_program.specs.Program.{SourceProgram}
 use Rattle.forth_program.specs.SourceTokens.{all_tokens}
-use Rattle.forth_program.specs.Form.{IsDataStart, everywhere, leaves_fit, may_be_token}
+use Rattle.forth_program.specs.Form.{everywhere, leaves_fit, may_be_token}
+use Rattle.console_ports.specs.DataSpace.{IsDataStart}
 use Rattle.word_laws.specs.Words.{stands_plain}
 use Rattle.code_layout.specs.Layout.{Routine, Library, Executing, routine_of, laid_out}
 

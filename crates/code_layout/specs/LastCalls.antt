@@ -17,14 +17,14 @@ pub record IsReturn (cells : List ℕ) (at : ℕ) : Type 0 where
   pub is_cell : at < length cells
   pub no_way_back : (from : ℕ) → at < from → from < length cells → (decoded (slice_index cells from) ≡ Jump at) ⊎ (decoded (slice_index cells from) ≡ Branch at) → ⊥
 
-abbrev pub IsCall : List ℕ → ℕ → Type 0
-IsCall cells at = (target : ℕ) × (decoded (slice_index cells at) ≡ CallTo target)
+abbrev pub IsCallCell : List ℕ → ℕ → Type 0
+IsCallCell cells at = (target : ℕ) × (decoded (slice_index cells at) ≡ CallTo target)
 
 pub record LastCalls (cells : List ℕ) : Type 0 where
   -- no call stands directly before such a return
-  pub none_before : (at : ℕ) → IsCall cells at → IsReturn cells (suc at) → ⊥
+  pub none_before : (at : ℕ) → IsCallCell cells at → IsReturn cells (suc at) → ⊥
   -- nor directly before a jump that leads on to one
-  pub none_before_jump : (at return_at : ℕ) → IsCall cells at → decoded (slice_index cells (suc at)) ≡ Jump return_at → suc at < return_at → IsReturn cells return_at → ⊥
+  pub none_before_jump : (at return_at : ℕ) → IsCallCell cells at → decoded (slice_index cells (suc at)) ≡ Jump return_at → suc at < return_at → IsReturn cells return_at → ⊥
 
 -- the code of an item begins with a cell, and not with a return of an EXIT in it to which no way leads back. So it is not for CHARS,
 -- which has no cells, and for a CASE whose first item is EXIT

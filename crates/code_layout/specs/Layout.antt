@@ -372,11 +372,11 @@ first_place library p = abort_place library p + 15
 abbrev pub tokens_place : List Nodes → SourceProgram → ℕ
 tokens_place library p = first_place library p + bodies_size p.bodies
 
-abbrev pub place_of : List Nodes → SourceProgram → Routine → ℕ
-place_of library p (Definition definition) = begins_at (first_place library p) p.bodies definition
-place_of library p (Library number) = begins_at (library_place p) library number
-place_of library p Executing = execute_place library p
-place_of library p Aborting = abort_place library p
+abbrev pub routine_place : List Nodes → SourceProgram → Routine → ℕ
+routine_place library p (Definition definition) = begins_at (first_place library p) p.bodies definition
+routine_place library p (Library number) = begins_at (library_place p) library number
+routine_place library p Executing = execute_place library p
+routine_place library p Aborting = abort_place library p
 
 -- cells 0 to 7: MAIN is called, and then 0 is stored at the halt port
 abbrev pub header : ℕ → List ℕ
@@ -385,7 +385,7 @@ header main_at = call_to main_at ∷ halt_cells ++ 0 ∷ 0 ∷ 0 ∷ 0 ∷ []
 -- the image of a program with a library
 abbrev pub laid_out : List Nodes → SourceProgram → Content
 laid_out library p =
-    let place = place_of library p in
+    let place = routine_place library p in
     record {
       cells = header (place (Definition p.main_body)) ++ (token_jumps place (tokens_place library p) p.tokens
           ++ (bodies_cells p.data_start place (library_place p) library

@@ -9,7 +9,7 @@ use Rattle.forth_program.specs.State.{World, State, Goes}
 use Rattle.forth_program.specs.Program.{SourceProgram}
 use Rattle.forth_program.specs.Form.{everywhere, leaves_fit}
 use Rattle.forth_program.specs.Meaning.{meaning}
-use Rattle.forth_program.specs.Step.{before, first, on_cells}
+use Rattle.forth_program.specs.Step.{before, first_work, on_cells}
 use Rattle.forth_program.specs.Run.{steps}
 use Rattle.forth_program.specs.Price.{word_price, spent}
 use Rattle.forth_program.specs.Cells.{AreCells, IsWorld}
@@ -54,10 +54,10 @@ abbrev pub body_is_done : List ℕ → World → State
 body_is_done c w = record { work = []; entries = []; callers = []; cells = c; world = w }
 
 -- a step of a body, on the stacks of a word that began with so many data cells; one return cell is the address of the caller
-pub record TakesNoMore (word : Word) (begins : ℕ) (t : State) : Type 0 where
+pub record BodyTakesNoMore (word : Word) (begins : ℕ) (t : State) : Type 0 where
   pub busy : t.work ≢ []
-  pub cells : length t.cells + peak_of [] (first t.work) ≤ begins + (entry_of word).peak
-  pub returns : 1 + entries_height t.entries + back_of (first t.work) ≤ (entry_of word).back
+  pub cells : length t.cells + peak_of [] (first_work t.work) ≤ begins + (entry_of word).peak
+  pub returns : 1 + entries_height t.entries + back_of (first_work t.work) ≤ (entry_of word).back
 
 -- a body does what a word does
 pub record BodyMeans (word : Word) (body : Nodes) (p : SourceProgram) (c : List ℕ) (w : World) : Type 0 where
@@ -67,7 +67,7 @@ pub record BodyMeans (word : Word) (body : Nodes) (p : SourceProgram) (c : List 
   -- with the call and the end of the body they cost no more than the routine
   pub within_price : spent p 2 count (body_begins body c w) ≤ routine_price word c w
   -- each of them has an item or a mark to do, and takes no more cells than the word
-  pub within_stacks : (j : ℕ) (t : State) → j < count → steps p j (body_begins body c w) ≡ Goes t → TakesNoMore word (length c) t
+  pub within_stacks : (j : ℕ) (t : State) → j < count → steps p j (body_begins body c w) ≡ Goes t → BodyTakesNoMore word (length c) t
 
 -- the bodies of a library do what its words mean, in any program, with enough cells
 abbrev pub LibraryMeans : List Nodes → Type 0

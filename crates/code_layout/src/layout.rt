@@ -134,7 +134,7 @@ fn routine_places(alloc: Global, library: &Program, program: &Program) -> Result
 }
 
 // Where TYPE begins, if the library has it.
-#[tactic(auto, using(crate::proofs::Placing::past_places), unfolding(crate::specs::Places::place_by))]
+#[tactic(auto, using(crate::proofs::DefinitionPlaces::past_places), unfolding(crate::specs::Places::place_by))]
 fn type_place(places: &Places) -> u16
     requires { ArePlaces places.now }
     ensures value { result ≡ place_by places.now type_routine }

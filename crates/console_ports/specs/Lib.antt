@@ -1,1 +1,2 @@
+pub mod DataSpace
 pub mod Ports

@@ -4,7 +4,7 @@ use Rattle.std.specs.Prelude.{ℕ, List, zero, suc, true, false, codes}
 use Rattle.word_table.specs.declared.word.Word.TheVariants.{Emit, Dup, Index}
 use Rattle.forth_program.specs.Tree.{Literal, Plain, Call, If, Until, While, Again, Do, QDo, Case, Leave, Exit, Empty, Then, NoArm, Arm}
 use Rattle.control_flow.specs.declared.refusal.SourceCause.TheVariants as cause
-use Rattle.control_flow.specs.Outcome.{Fine, Refused, NotBuilt}
+use Rattle.control_flow.specs.ParseResult.{Fine, Refused, NotBuilt}
 use Rattle.control_flow.specs.Items.{items_at}
 use Rattle.control_flow.specs.SourceText.{program_with, source_at, program_of_text}
 

@@ -15,10 +15,10 @@ use Rattle.control_flow.specs.declared.nest.Ending.{Ending}
 use Rattle.control_flow.specs.declared.nest.Ending.TheVariants as ending
 use Rattle.control_flow.specs.declared.sense.Sense.{Sense}
 use Rattle.control_flow.specs.declared.sense.Sense.TheVariants as sense
-use Rattle.control_flow.specs.Nest.{ended, is_inside_do, open_of}
+use Rattle.control_flow.specs.Nest.{nest_ended, is_inside_do, open_of}
 use Rattle.control_flow.specs.Sense.{opening_word, ending_word}
-use Rattle.control_flow.specs.Outcome.{Place, Outcome, weighed, unfit}
-use Rattle.control_flow.specs.Items.{Seen, One, Many, Body, Cases, seen_of, token_at, opened_at, ended_at, else_by, if_by, if_at, while_by, begin_by, begin_at, do_by, do_at, q_do_by, q_do_at, body_by, body_at, arms_by, arms_at, case_at, structure_at, alone, item_at, then_items, items_by, items_at}
+use Rattle.control_flow.specs.ParseResult.{ParserState, ParseResult, weighed, unfit}
+use Rattle.control_flow.specs.Items.{ReadToken, One, Many, Body, Cases, read_token_of, token_at, opened_at, ended_at, else_by, if_by, if_at, while_by, begin_by, begin_at, do_by, do_at, q_do_by, q_do_at, body_by, body_at, arms_by, arms_at, case_at, structure_at, alone, item_at, then_items, items_by, items_at}
 use Rattle.forth_program.specs.Weight.{else_weight, turn_weight, node_weight, weight as weight_of, arms_weight}
 use Rattle.forth_program.specs.SourceTokens.{node_tokens, tokens_of, arms_tokens}
 use Rattle.control_flow.specs.SourceLaw.{is_read}
@@ -27,15 +27,15 @@ use Rattle.control_flow.proofs.Senses.{AllBelow, IsSense, sense_is}
 use Rattle.control_flow.proofs.Moves.{Good, good_then, Moves, weighs, opens, ends, gone, becomes, holds, same_loop, own_loop}
 
 -- the definitions that a place knows have numbers below N
-pub record Bounded (N : ℕ) (at : Place) : Type 0 where
+pub record Bounded (N : ℕ) (at : ParserState) : Type 0 where
   pub own : at.definitions < N
   pub others : AllBelow N at.entries
 
-pub bounded_on : (N : ℕ) (from at : Place) → at.entries ≡ from.entries → at.definitions ≡ from.definitions → Bounded N from → Bounded N at
+pub bounded_on : (N : ℕ) (from at : ParserState) → at.entries ≡ from.entries → at.definitions ≡ from.definitions → Bounded N from → Bounded N at
 bounded_on N from at e d b = record { own = subst (λ n. n < N) (sym d) b.own; others = subst (AllBelow N) (sym e) b.others }
 
 -- an item, whose first token ends at a place
-pub record ItemRead (from : Place) (one : One) : Type 0 where
+pub record ItemRead (from : ParserState) (one : One) : Type 0 where
   pub entries : one.at.entries ≡ from.entries
   pub definitions : one.at.definitions ≡ from.definitions
   pub nest : one.at.nest ≡ from.nest
@@ -46,10 +46,10 @@ pub record ItemRead (from : Place) (one : One) : Type 0 where
   pub items : (N : ℕ) → Bounded N from → (is_read N one.node && inside (is_read N) one.node) ≡ true
 
 -- items, and the word that ends them
-pub record ItemsRead (from : Place) (many : Many) : Type 0 where
+pub record ItemsRead (from : ParserState) (many : Many) : Type 0 where
   pub entries : many.at.entries ≡ from.entries
   pub definitions : many.at.definitions ≡ from.definitions
-  pub nest : ended from.nest many.ending ≡ Ok many.at.nest
+  pub nest : nest_ended from.nest many.ending ≡ Ok many.at.nest
   pub weight : from.weight + weight_of many.nodes + (entry_of (ending_word many.ending)).weight ≤ many.at.weight
   pub light : many.at.weight ≤ 2400
   pub tokens : from.count + tokens_of many.nodes + 1 ≤ many.at.count
@@ -58,7 +58,7 @@ pub record ItemsRead (from : Place) (many : Many) : Type 0 where
   pub items : (N : ℕ) → Bounded N from → everywhere (is_read N) many.nodes ≡ true
 
 -- a token, which takes a byte at least
-record TokenRead (from : Place) (seen : Seen) : Type 0 where
+record TokenRead (from : ParserState) (seen : ReadToken) : Type 0 where
   entries : seen.at.entries ≡ from.entries
   definitions : seen.at.definitions ≡ from.definitions
   nest : seen.at.nest ≡ from.nest
@@ -67,17 +67,17 @@ record TokenRead (from : Place) (seen : Seen) : Type 0 where
   left : length seen.at.rest < length from.rest
   sense : (N : ℕ) → Bounded N from → IsSense N seen.sense
 
-seen_read : (from : Place) (reading : Reading) → Passes from.count (length from.rest) reading → Good (TokenRead from) (seen_of from reading)
+seen_read : (from : ParserState) (reading : Reading) → Passes from.count (length from.rest) reading → Good (TokenRead from) (read_token_of from reading)
 seen_read from (NoMore k) h = tt
 seen_read from (Refuses k c) h = tt
 seen_read from (Reads token k rest) h = record { entries = refl; definitions = refl; nest = refl; weight = refl; count = h.0; left = h.1; sense = λ N b. sense_is N from.entries token b.others }
 
-token_read : (from : Place) → Good (TokenRead from) (token_at from)
+token_read : (from : ParserState) → Good (TokenRead from) (token_at from)
 token_read from = seen_read from (next_from from.count from.rest) (next_passes from.count (length from.rest) from.count from.rest (omega arith) (omega arith))
 
 -- ---- an item that is one token
 
-alone_read : (w : ℕ) (node : Node) (from : Place) → node_weight node ≡ w → node_tokens node ≡ 1 → leave_fits (is_inside_do from.nest) node ≡ true → ((N : ℕ) → Bounded N from → (is_read N node && inside (is_read N) node) ≡ true) → Good (ItemRead from) (alone w node from)
+alone_read : (w : ℕ) (node : Node) (from : ParserState) → node_weight node ≡ w → node_tokens node ≡ 1 → leave_fits (is_inside_do from.nest) node ≡ true → ((N : ℕ) → Bounded N from → (is_read N node && inside (is_read N) node) ≡ true) → Good (ItemRead from) (alone w node from)
 alone_read w node from e t l i = good_then (λ x. Moves w from x × (x.nest ≡ from.nest)) (ItemRead from) (weighed w from) _ (weighs w from)
     (λ x m. record { entries = m.0.entries; definitions = m.0.definitions; nest = m.1; weight = omega (arith, e, m.0.weight); tokens = omega (arith, t, m.0.count); left = omega (arith, ap length m.0.rest); leaves = l; items = i })
 
@@ -87,11 +87,11 @@ else_small (Then node rest) = omega arith
 
 -- ---- structures; `from` is the place behind the word that opens one, and `at` the same with the structure open
 
-module _ (go : Place → Outcome Many) (n : ℕ) (goes : (at : Place) → length at.rest < n → Good (ItemsRead at) (go at)) where
-  module _ (from at : Place) (outer_is : length from.rest < n) where
+module _ (go : ParserState → ParseResult Many) (n : ℕ) (goes : (at : ParserState) → length at.rest < n → Good (ItemsRead at) (go at)) where
+  module _ (from at : ParserState) (outer_is : length from.rest < n) where
     -- IF
     module _ (m : Moves 1 from at) (k : at.nest ≡ kind.If ∷ from.nest) where
-      else_read : (first second : Nodes) (e : Ending) (mid end : Place) → ItemsRead at (record { nodes = first; ending = ending.Else; at = mid }) → ItemsRead mid (record { nodes = second; ending = e; at = end }) → Good (ItemRead from) (else_by first second end e)
+      else_read : (first second : Nodes) (e : Ending) (mid end : ParserState) → ItemsRead at (record { nodes = first; ending = ending.Else; at = mid }) → ItemsRead mid (record { nodes = second; ending = e; at = end }) → Good (ItemRead from) (else_by first second end e)
       else_read first second ending.Then mid end r s =
           let inner : mid.nest ≡ kind.Else ∷ from.nest = becomes kind.If kind.Else ending.Else from.nest at.nest mid.nest k refl r.nest in
           let w : at.weight + weight_of first + 1 ≤ mid.weight = r.weight in
@@ -110,7 +110,7 @@ module _ (go : Place → Outcome Many) (n : ℕ) (goes : (at : Place) → length
           }
       else_read first second e mid end r s = tt
 
-      if_on : (first : Nodes) (e : Ending) (mid : Place) → ItemsRead at (record { nodes = first; ending = e; at = mid }) → Good (ItemRead from) (if_by go first mid e)
+      if_on : (first : Nodes) (e : Ending) (mid : ParserState) → ItemsRead at (record { nodes = first; ending = e; at = mid }) → Good (ItemRead from) (if_by go first mid e)
       if_on first ending.Then mid r =
           let w : at.weight + weight_of first + 0 ≤ mid.weight = r.weight in
           record {
@@ -132,7 +132,7 @@ module _ (go : Place → Outcome Many) (n : ℕ) (goes : (at : Place) → length
 
     -- BEGIN
     module _ (m : Moves 0 from at) (k : at.nest ≡ kind.Begin ∷ from.nest) where
-      while_read : (test body : Nodes) (e : Ending) (mid end : Place) → ItemsRead at (record { nodes = test; ending = ending.While; at = mid }) → ItemsRead mid (record { nodes = body; ending = e; at = end }) → Good (ItemRead from) (while_by test body end e)
+      while_read : (test body : Nodes) (e : Ending) (mid end : ParserState) → ItemsRead at (record { nodes = test; ending = ending.While; at = mid }) → ItemsRead mid (record { nodes = body; ending = e; at = end }) → Good (ItemRead from) (while_by test body end e)
       while_read test body ending.Repeat mid end r s =
           let inner : mid.nest ≡ kind.While ∷ from.nest = becomes kind.Begin kind.While ending.While from.nest at.nest mid.nest k refl r.nest in
           let w : at.weight + weight_of test + 1 ≤ mid.weight = r.weight in
@@ -151,7 +151,7 @@ module _ (go : Place → Outcome Many) (n : ℕ) (goes : (at : Place) → length
           }
       while_read test body e mid end r s = tt
 
-      begin_on : (first : Nodes) (e : Ending) (mid : Place) → ItemsRead at (record { nodes = first; ending = e; at = mid }) → Good (ItemRead from) (begin_by go first mid e)
+      begin_on : (first : Nodes) (e : Ending) (mid : ParserState) → ItemsRead at (record { nodes = first; ending = e; at = mid }) → Good (ItemRead from) (begin_by go first mid e)
       begin_on first ending.Until mid r =
           let w : at.weight + weight_of first + 1 ≤ mid.weight = r.weight in
           record {
@@ -185,7 +185,7 @@ module _ (go : Place → Outcome Many) (n : ℕ) (goes : (at : Place) → length
 
     -- DO and ?DO
     module _ (w : ℕ) (m : Moves w from at) (k : at.nest ≡ kind.Do ∷ from.nest) where
-      loop_read : (node : Node) (body : Nodes) (plus : Bool) (e : Ending) (end : Place) → ItemsRead at (record { nodes = body; ending = e; at = end }) → ended at.nest e ≡ Ok from.nest →
+      loop_read : (node : Node) (body : Nodes) (plus : Bool) (e : Ending) (end : ParserState) → ItemsRead at (record { nodes = body; ending = e; at = end }) → nest_ended at.nest e ≡ Ok from.nest →
           (entry_of (ending_word e)).weight ≡ turn_weight plus → node_weight node ≡ w + weight_of body + turn_weight plus → node_tokens node ≡ tokens_of body + 2 →
           leave_fits (is_inside_do from.nest) node ≡ leaves_fit true body → ((N : ℕ) → (is_read N node && inside (is_read N) node) ≡ everywhere (is_read N) body) → ItemRead from (record { node = node; at = end })
       loop_read node body plus e end r c v x t l i =
@@ -203,36 +203,36 @@ module _ (go : Place → Outcome Many) (n : ℕ) (goes : (at : Place) → length
           }
 
     module _ (m : Moves 8 from at) (k : at.nest ≡ kind.Do ∷ from.nest) where
-      do_on : (body : Nodes) (e : Ending) (end : Place) → ItemsRead at (record { nodes = body; ending = e; at = end }) → Good (ItemRead from) (do_by body end e)
-      do_on body ending.Loop end r = loop_read 8 m k (Do body false) body false ending.Loop end r (ap (λ l. ended l ending.Loop) k) refl refl refl refl (λ N. refl)
-      do_on body ending.PlusLoop end r = loop_read 8 m k (Do body true) body true ending.PlusLoop end r (ap (λ l. ended l ending.PlusLoop) k) refl refl refl refl (λ N. refl)
+      do_on : (body : Nodes) (e : Ending) (end : ParserState) → ItemsRead at (record { nodes = body; ending = e; at = end }) → Good (ItemRead from) (do_by body end e)
+      do_on body ending.Loop end r = loop_read 8 m k (Do body false) body false ending.Loop end r (ap (λ l. nest_ended l ending.Loop) k) refl refl refl refl (λ N. refl)
+      do_on body ending.PlusLoop end r = loop_read 8 m k (Do body true) body true ending.PlusLoop end r (ap (λ l. nest_ended l ending.PlusLoop) k) refl refl refl refl (λ N. refl)
       do_on body e end r = tt
 
       do_read : Good (ItemRead from) (do_at go at)
       do_read = good_then (ItemsRead at) (ItemRead from) (go at) _ (goes at (omega (arith, ap length m.rest))) (λ body r. do_on body.nodes body.ending body.at r)
 
     module _ (m : Moves 15 from at) (k : at.nest ≡ kind.Do ∷ from.nest) where
-      q_do_on : (body : Nodes) (e : Ending) (end : Place) → ItemsRead at (record { nodes = body; ending = e; at = end }) → Good (ItemRead from) (q_do_by body end e)
-      q_do_on body ending.Loop end r = loop_read 15 m k (QDo body false) body false ending.Loop end r (ap (λ l. ended l ending.Loop) k) refl refl refl refl (λ N. refl)
-      q_do_on body ending.PlusLoop end r = loop_read 15 m k (QDo body true) body true ending.PlusLoop end r (ap (λ l. ended l ending.PlusLoop) k) refl refl refl refl (λ N. refl)
+      q_do_on : (body : Nodes) (e : Ending) (end : ParserState) → ItemsRead at (record { nodes = body; ending = e; at = end }) → Good (ItemRead from) (q_do_by body end e)
+      q_do_on body ending.Loop end r = loop_read 15 m k (QDo body false) body false ending.Loop end r (ap (λ l. nest_ended l ending.Loop) k) refl refl refl refl (λ N. refl)
+      q_do_on body ending.PlusLoop end r = loop_read 15 m k (QDo body true) body true ending.PlusLoop end r (ap (λ l. nest_ended l ending.PlusLoop) k) refl refl refl refl (λ N. refl)
       q_do_on body e end r = tt
 
       q_do_read : Good (ItemRead from) (q_do_at go at)
       q_do_read = good_then (ItemsRead at) (ItemRead from) (go at) _ (goes at (omega (arith, ap length m.rest))) (λ body r. q_do_on body.nodes body.ending body.at r)
 
   -- the body of an arm
-  abbrev BodyRead : Place → Body → Type 0
+  abbrev BodyRead : ParserState → Body → Type 0
   BodyRead from body = ItemsRead from (record { nodes = body.nodes; ending = ending.EndOf; at = body.at })
 
-  body_on : (from : Place) (nodes : Nodes) (e : Ending) (end : Place) → ItemsRead from (record { nodes = nodes; ending = e; at = end }) → Good (BodyRead from) (body_by nodes end e)
+  body_on : (from : ParserState) (nodes : Nodes) (e : Ending) (end : ParserState) → ItemsRead from (record { nodes = nodes; ending = e; at = end }) → Good (BodyRead from) (body_by nodes end e)
   body_on from nodes ending.EndOf end r = r
   body_on from nodes e end r = tt
 
-  body_read : (from : Place) → length from.rest < n → Good (BodyRead from) (body_at go from)
+  body_read : (from : ParserState) → length from.rest < n → Good (BodyRead from) (body_at go from)
   body_read from h = good_then (ItemsRead from) (BodyRead from) (go from) _ (goes from h) (λ body r. body_on from body.nodes body.ending body.at r)
 
   -- arms, and the items behind them, inside a CASE
-  record CasesRead (outer : List Open) (from : Place) (cases : Cases) : Type 0 where
+  record CasesRead (outer : List Open) (from : ParserState) (cases : Cases) : Type 0 where
     entries : cases.at.entries ≡ from.entries
     definitions : cases.at.definitions ≡ from.definitions
     nest : cases.at.nest ≡ outer
@@ -243,9 +243,9 @@ module _ (go : Place → Outcome Many) (n : ℕ) (goes : (at : Place) → length
     items : (N : ℕ) → Bounded N from → (in_arms (is_read N) cases.arms && everywhere (is_read N) cases.rest) ≡ true
 
   module _ (outer : List Open) where
-    arms_on : (m : ℕ) (others : (at : Place) → at.nest ≡ kind.Case ∷ outer → length at.rest < n → length at.rest < m → Good (CasesRead outer at) (arms_at go m at)) →
-        (from : Place) → from.nest ≡ kind.Case ∷ outer → length from.rest < n → length from.rest < suc m →
-        (tests : Nodes) (e : Ending) (mid : Place) → ItemsRead from (record { nodes = tests; ending = e; at = mid }) → Good (CasesRead outer from) (arms_by go (arms_at go m) tests mid e)
+    arms_on : (m : ℕ) (others : (at : ParserState) → at.nest ≡ kind.Case ∷ outer → length at.rest < n → length at.rest < m → Good (CasesRead outer at) (arms_at go m at)) →
+        (from : ParserState) → from.nest ≡ kind.Case ∷ outer → length from.rest < n → length from.rest < suc m →
+        (tests : Nodes) (e : Ending) (mid : ParserState) → ItemsRead from (record { nodes = tests; ending = e; at = mid }) → Good (CasesRead outer from) (arms_by go (arms_at go m) tests mid e)
     arms_on m others from k h i tests ending.EndCase mid r =
         let w : from.weight + weight_of tests + 1 ≤ mid.weight = r.weight in
         record {
@@ -286,11 +286,11 @@ module _ (go : Place → Outcome Many) (n : ℕ) (goes : (at : Place) → length
         }))
     arms_on m others from k h i tests e mid r = tt
 
-    arms_read : (m : ℕ) (from : Place) → from.nest ≡ kind.Case ∷ outer → length from.rest < n → length from.rest < m → Good (CasesRead outer from) (arms_at go m from)
+    arms_read : (m : ℕ) (from : ParserState) → from.nest ≡ kind.Case ∷ outer → length from.rest < n → length from.rest < m → Good (CasesRead outer from) (arms_at go m from)
     arms_read zero from k h i = absurd (omega arith)
     arms_read (suc m) from k h i = good_then (ItemsRead from) (CasesRead outer from) (go from) _ (goes from h) (λ tests r. arms_on m (arms_read m) from k h i tests.nodes tests.ending tests.at r)
 
-  case_read : (m : ℕ) (from at : Place) → Moves 0 from at → at.nest ≡ kind.Case ∷ from.nest → length from.rest < n → length from.rest < m → Good (ItemRead from) (case_at go m at)
+  case_read : (m : ℕ) (from at : ParserState) → Moves 0 from at → at.nest ≡ kind.Case ∷ from.nest → length from.rest < n → length from.rest < m → Good (ItemRead from) (case_at go m at)
   case_read m from at v k h i = good_then (CasesRead from.nest at) (ItemRead from) (arms_at go m at) _ (arms_read from.nest m at k (omega (arith, ap length v.rest)) (omega (arith, ap length v.rest)))
       (λ cases c. record {
         entries = c.entries ∙ v.entries;
@@ -303,7 +303,7 @@ module _ (go : Place → Outcome Many) (n : ℕ) (goes : (at : Place) → length
         items = λ N b. c.items N (bounded_on N from at v.entries v.definitions b);
       })
 
-  structure_read : (m : ℕ) (o : Opening) (from at : Place) → Moves (entry_of (opening_word o)).weight from at → at.nest ≡ open_of o ∷ from.nest → length from.rest < n → length from.rest < m → Good (ItemRead from) (structure_at go m o at)
+  structure_read : (m : ℕ) (o : Opening) (from at : ParserState) → Moves (entry_of (opening_word o)).weight from at → at.nest ≡ open_of o ∷ from.nest → length from.rest < n → length from.rest < m → Good (ItemRead from) (structure_at go m o at)
   structure_read m opening.If from at v k h i = if_read from at h v k
   structure_read m opening.Begin from at v k h i = begin_read from at h v k
   structure_read m opening.Do from at v k h i = do_read from at h v k
@@ -312,11 +312,11 @@ module _ (go : Place → Outcome Many) (n : ℕ) (goes : (at : Place) → length
 
   -- ---- items
 
-  leave_on : (from : Place) (d : Bool) → is_inside_do from.nest ≡ d → Good (ItemRead from) (elim d [ true ↦ alone (entry_of word.Leave).weight Leave from | false ↦ unfit from ])
+  leave_on : (from : ParserState) (d : Bool) → is_inside_do from.nest ≡ d → Good (ItemRead from) (elim d [ true ↦ alone (entry_of word.Leave).weight Leave from | false ↦ unfit from ])
   leave_on from true e = alone_read 5 Leave from refl refl e (λ N b. refl)
   leave_on from false e = tt
 
-  item_read : (m : ℕ) (from : Place) (s : Sense) → ((N : ℕ) → Bounded N from → IsSense N s) → length from.rest < n → length from.rest < m → Good (ItemRead from) (item_at go m from s)
+  item_read : (m : ℕ) (from : ParserState) (s : Sense) → ((N : ℕ) → Bounded N from → IsSense N s) → length from.rest < n → length from.rest < m → Good (ItemRead from) (item_at go m from s)
   item_read m from (sense.Number x) q h i = alone_read 2 (Literal x) from refl refl refl (λ N b. and_from _ _ (lt-ltb x 65536 (q N b)) refl)
   item_read m from (sense.Plain w) q h i = alone_read (entry_of w).weight (Plain w) from refl refl refl (λ N b. and_from _ _ (q N b) refl)
   item_read m from (sense.Calls d) q h i = alone_read 1 (Call d) from refl refl refl (λ N b. and_from _ _ (lt-ltb d N (q N b)) refl)
@@ -330,13 +330,13 @@ module _ (go : Place → Outcome Many) (n : ℕ) (goes : (at : Place) → length
   item_read m from sense.Unknown q h i = tt
   item_read m from sense.NotYet q h i = tt
 
-  module _ (from : Place) (seen : Seen) (t : TokenRead from seen) (h : length seen.at.rest < n) where
-    then_read : (o : Outcome One) → Good (ItemRead seen.at) o → Good (ItemsRead from) (then_items go o)
+  module _ (from : ParserState) (seen : ReadToken) (t : TokenRead from seen) (h : length seen.at.rest < n) where
+    then_read : (o : ParseResult One) → Good (ItemRead seen.at) o → Good (ItemsRead from) (then_items go o)
     then_read o p = good_then (ItemRead seen.at) (ItemsRead from) o _ p (λ one a. good_then (ItemsRead one.at) (ItemsRead from) (go one.at) _ (goes one.at (omega (arith, a.left)))
         (λ many r. record {
           entries = r.entries ∙ a.entries ∙ t.entries;
           definitions = r.definitions ∙ a.definitions ∙ t.definitions;
-          nest = ap (λ l. ended l many.ending) (sym (a.nest ∙ t.nest)) ∙ r.nest;
+          nest = ap (λ l. nest_ended l many.ending) (sym (a.nest ∙ t.nest)) ∙ r.nest;
           weight = omega (arith, r.weight, a.weight, t.weight);
           light = r.light;
           tokens = omega (arith, r.tokens, a.tokens, t.count);
@@ -349,11 +349,11 @@ module _ (go : Place → Outcome Many) (n : ℕ) (goes : (at : Place) → length
 
     by_read : (s : Sense) → ((N : ℕ) → Bounded N seen.at → IsSense N s) → Good (ItemsRead from) (items_by go n seen.at s)
     by_read (sense.Ends e) q =
-        good_then (λ x. Moves (entry_of (ending_word e)).weight seen.at x × (ended seen.at.nest e ≡ Ok x.nest)) (ItemsRead from) (ended_at e seen.at) _ (ends e seen.at)
+        good_then (λ x. Moves (entry_of (ending_word e)).weight seen.at x × (nest_ended seen.at.nest e ≡ Ok x.nest)) (ItemsRead from) (ended_at e seen.at) _ (ends e seen.at)
         (λ x v. record {
           entries = v.0.entries ∙ t.entries;
           definitions = v.0.definitions ∙ t.definitions;
-          nest = ap (λ l. ended l e) (sym t.nest) ∙ v.1;
+          nest = ap (λ l. nest_ended l e) (sym t.nest) ∙ v.1;
           weight = omega (arith, v.0.weight, t.weight);
           light = v.0.light;
           tokens = omega (arith, v.0.count, t.count);
@@ -372,7 +372,7 @@ module _ (go : Place → Outcome Many) (n : ℕ) (goes : (at : Place) → length
     by_read sense.Unknown q = tt
     by_read sense.NotYet q = tt
 
-pub items_read : (n : ℕ) (at : Place) → length at.rest < n → Good (ItemsRead at) (items_at n at)
+pub items_read : (n : ℕ) (at : ParserState) → length at.rest < n → Good (ItemsRead at) (items_at n at)
 unfolding items_at
 items_read zero at h = absurd (omega arith)
 items_read (suc n) at h =

@@ -1,6 +1,6 @@
 pub mod Examples
 pub mod Readings
-pub mod Growing
+pub mod ItemLists
 pub mod ArmLists
 pub mod Nests
 pub mod Senses

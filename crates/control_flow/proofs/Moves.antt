@@ -12,35 +12,35 @@ use Rattle.control_flow.specs.declared.nest.Opening.{Opening}
 use Rattle.control_flow.specs.declared.nest.Ending.{Ending}
 use Rattle.control_flow.specs.declared.nest.Ending.TheVariants as ending
 use Rattle.control_flow.specs.declared.nest.Step.TheVariants.{Gone, Becomes}
-use Rattle.control_flow.specs.Nest.{with_open, open_of, step_of, stepped, ended, is_do, is_inside_do}
+use Rattle.control_flow.specs.Nest.{with_open, open_of, step_of, stepped, nest_ended, is_do, is_inside_do}
 use Rattle.control_flow.specs.Sense.{opening_word, ending_word}
-use Rattle.control_flow.specs.Outcome.{Place, Outcome, Fine, Refused, NotBuilt, Endless, ◌>>=◌, weighed}
+use Rattle.control_flow.specs.ParseResult.{ParserState, ParseResult, Fine, Refused, NotBuilt, Endless, ◌>>=◌, weighed}
 use Rattle.control_flow.specs.Items.{nested, opened_at, ended_at}
 
 -- the fuel is not spent, and a value is such
-abbrev pub Good : {A : Type 0} → (A → Type 0) → Outcome A → Type 0
+abbrev pub Good : {A : Type 0} → (A → Type 0) → ParseResult A → Type 0
 Good P (Fine x) = P x
 Good P (Refused k c) = Unit {0}
 Good P NotBuilt = Unit {0}
 Good P Endless = ⊥
 
-pub good_then : {A B : Type 0} (P : A → Type 0) (Q : B → Type 0) (o : Outcome A) (f : A → Outcome B) → Good P o → ((x : A) → P x → Good Q (f x)) → Good Q (o >>= f)
+pub good_then : {A B : Type 0} (P : A → Type 0) (Q : B → Type 0) (o : ParseResult A) (f : A → ParseResult B) → Good P o → ((x : A) → P x → Good Q (f x)) → Good Q (o >>= f)
 good_then P Q (Fine x) f p h = h x p
 good_then P Q (Refused k c) f p h = tt
 good_then P Q NotBuilt f p h = tt
 good_then P Q Endless f p h = absurd p
 
-pub good_weaker : {A : Type 0} (P Q : A → Type 0) → ((x : A) → P x → Q x) → (o : Outcome A) → Good P o → Good Q o
+pub good_weaker : {A : Type 0} (P Q : A → Type 0) → ((x : A) → P x → Q x) → (o : ParseResult A) → Good P o → Good Q o
 good_weaker P Q h (Fine x) p = h x p
 good_weaker P Q h (Refused k c) p = tt
 good_weaker P Q h NotBuilt p = tt
 good_weaker P Q h Endless p = absurd p
 
-pub good_is : {A : Type 0} (P : A → Type 0) (o : Outcome A) (x : A) → o ≡ Fine x → Good P o → P x
+pub good_is : {A : Type 0} (P : A → Type 0) (o : ParseResult A) (x : A) → o ≡ Fine x → Good P o → P x
 good_is P o x e p = subst (Good P) e p
 
 -- a word weighs so much, and changes nothing but the weight and the nest
-pub record Moves (w : ℕ) (from at : Place) : Type 0 where
+pub record Moves (w : ℕ) (from at : ParserState) : Type 0 where
   pub entries : at.entries ≡ from.entries
   pub definitions : at.definitions ≡ from.definitions
   pub weight : at.weight ≡ from.weight + w
@@ -48,25 +48,25 @@ pub record Moves (w : ℕ) (from at : Place) : Type 0 where
   pub count : at.count ≡ from.count
   pub rest : at.rest ≡ from.rest
 
-weighs_on : (w : ℕ) (from at : Place) (fits : Bool) → nat_le (at.weight + w) 2400 ≡ fits → from ≡ record at { nest = from.nest } →
+weighs_on : (w : ℕ) (from at : ParserState) (fits : Bool) → nat_le (at.weight + w) 2400 ≡ fits → from ≡ record at { nest = from.nest } →
     Good (λ x. Moves w from x × (x.nest ≡ at.nest)) (elim fits [ true ↦ Fine (record at { weight = at.weight + w }) | false ↦ Refused at.count cause.CodeFull ])
 weighs_on w from at true e s = (
   record {
-    entries = sym (ap (λ (p : Place). p.entries) s);
-    definitions = sym (ap (λ (p : Place). p.definitions) s);
-    weight = ap (λ n. n + w) (sym (ap (λ (p : Place). p.weight) s));
+    entries = sym (ap (λ (p : ParserState). p.entries) s);
+    definitions = sym (ap (λ (p : ParserState). p.definitions) s);
+    weight = ap (λ n. n + w) (sym (ap (λ (p : ParserState). p.weight) s));
     light = leb-true (at.weight + w) 2400 e;
-    count = sym (ap (λ (p : Place). p.count) s);
-    rest = sym (ap (λ (p : Place). p.rest) s);
+    count = sym (ap (λ (p : ParserState). p.count) s);
+    rest = sym (ap (λ (p : ParserState). p.rest) s);
   },
   refl,
 )
 weighs_on w from at false e s = tt
 
-pub weighs : (w : ℕ) (at : Place) → Good (λ x. Moves w at x × (x.nest ≡ at.nest)) (weighed w at)
+pub weighs : (w : ℕ) (at : ParserState) → Good (λ x. Moves w at x × (x.nest ≡ at.nest)) (weighed w at)
 weighs w at = weighs_on w at at (nat_le (at.weight + w) 2400) refl refl
 
-nests : (w : ℕ) (at : Place) (r : Result (List Open) SourceCause) → Good (λ x. Moves w at x × (r ≡ Ok x.nest)) (nested at r >>= weighed w)
+nests : (w : ℕ) (at : ParserState) (r : Result (List Open) SourceCause) → Good (λ x. Moves w at x × (r ≡ Ok x.nest)) (nested at r >>= weighed w)
 nests w at (Ok nest) =
     good_weaker (λ x. Moves w at x × (x.nest ≡ nest)) (λ x. Moves w at x × (Ok nest ≡ Ok x.nest)) (λ x m. (m.0, ap Ok (sym m.1))) (weighed w (record at { nest = nest }))
     (weighs_on w at (record at { nest = nest }) (nat_le (at.weight + w) 2400) refl refl)
@@ -81,38 +81,38 @@ open_on o nest new false e = absurd cc
 pub open_is : (o : Open) (nest new : List Open) → with_open o nest ≡ Ok new → new ≡ o ∷ nest
 open_is o nest new e = open_on o nest new (nat_lt (length nest) 16) e
 
-pub opens : (o : Opening) (at : Place) → Good (λ x. Moves (entry_of (opening_word o)).weight at x × (x.nest ≡ open_of o ∷ at.nest)) (opened_at o at)
+pub opens : (o : Opening) (at : ParserState) → Good (λ x. Moves (entry_of (opening_word o)).weight at x × (x.nest ≡ open_of o ∷ at.nest)) (opened_at o at)
 opens o at =
     good_weaker (λ x. Moves (entry_of (opening_word o)).weight at x × (with_open (open_of o) at.nest ≡ Ok x.nest)) (λ x. Moves (entry_of (opening_word o)).weight at x × (x.nest ≡ open_of o ∷ at.nest))
     (λ x m. (m.0, open_is (open_of o) at.nest x.nest m.1)) (opened_at o at) (nests (entry_of (opening_word o)).weight at (with_open (open_of o) at.nest))
 
-pub ends : (e : Ending) (at : Place) → Good (λ x. Moves (entry_of (ending_word e)).weight at x × (ended at.nest e ≡ Ok x.nest)) (ended_at e at)
-ends e at = nests (entry_of (ending_word e)).weight at (ended at.nest e)
+pub ends : (e : Ending) (at : ParserState) → Good (λ x. Moves (entry_of (ending_word e)).weight at x × (nest_ended at.nest e ≡ Ok x.nest)) (ended_at e at)
+ends e at = nests (entry_of (ending_word e)).weight at (nest_ended at.nest e)
 
 -- ---- what a word leaves of the nest
 
 -- it ends the innermost structure
-pub gone : (o : Open) (e : Ending) (outer nest new : List Open) → nest ≡ o ∷ outer → step_of o e ≡ Gone → ended nest e ≡ Ok new → new ≡ outer
+pub gone : (o : Open) (e : Ending) (outer nest new : List Open) → nest ≡ o ∷ outer → step_of o e ≡ Gone → nest_ended nest e ≡ Ok new → new ≡ outer
 gone o e outer nest new k g h =
-    let is : Ok outer ≡ Ok new = sym (ap (λ s. stepped s o outer) g) ∙ ap (λ n. ended n e) (sym k) ∙ h in
+    let is : Ok outer ≡ Ok new = sym (ap (λ s. stepped s o outer) g) ∙ ap (λ n. nest_ended n e) (sym k) ∙ h in
     let same : outer ≡ new = cc in
     sym same
 
 -- its next part begins
-pub becomes : (o next : Open) (e : Ending) (outer nest new : List Open) → nest ≡ o ∷ outer → step_of o e ≡ Becomes next → ended nest e ≡ Ok new → new ≡ next ∷ outer
+pub becomes : (o next : Open) (e : Ending) (outer nest new : List Open) → nest ≡ o ∷ outer → step_of o e ≡ Becomes next → nest_ended nest e ≡ Ok new → new ≡ next ∷ outer
 becomes o next e outer nest new k g h =
-    let is : Ok (next ∷ outer) ≡ Ok new = sym (ap (λ s. stepped s o outer) g) ∙ ap (λ n. ended n e) (sym k) ∙ h in
+    let is : Ok (next ∷ outer) ≡ Ok new = sym (ap (λ s. stepped s o outer) g) ∙ ap (λ n. nest_ended n e) (sym k) ∙ h in
     let same : next ∷ outer ≡ new = cc in
     sym same
 
 -- an OF opens inside its CASE
-pub holds : (outer nest new : List Open) → nest ≡ kind.Case ∷ outer → ended nest ending.Of ≡ Ok new → new ≡ kind.Of ∷ kind.Case ∷ outer
-holds outer nest new k h = open_is kind.Of (kind.Case ∷ outer) new (ap (λ n. ended n ending.Of) (sym k) ∙ h)
+pub holds : (outer nest new : List Open) → nest ≡ kind.Case ∷ outer → nest_ended nest ending.Of ≡ Ok new → new ≡ kind.Of ∷ kind.Case ∷ outer
+holds outer nest new k h = open_is kind.Of (kind.Case ∷ outer) new (ap (λ n. nest_ended n ending.Of) (sym k) ∙ h)
 
 -- `;` ends a list of items outside structures
-pub outermost : (nest new : List Open) → nest ≡ [] → ended nest ending.Semicolon ≡ Ok new → new ≡ []
+pub outermost : (nest new : List Open) → nest ≡ [] → nest_ended nest ending.Semicolon ≡ Ok new → new ≡ []
 outermost nest new k h =
-    let is : Ok [] ≡ Ok new = ap (λ n. ended n ending.Semicolon) (sym k) ∙ h in
+    let is : Ok [] ≡ Ok new = ap (λ n. nest_ended n ending.Semicolon) (sym k) ∙ h in
     let same : [] ≡ new = cc in
     sym same
 

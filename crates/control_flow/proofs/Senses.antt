@@ -14,7 +14,7 @@ use Rattle.forth_reader.specs.declared.number.NumberRead.{NumberRead}
 use Rattle.forth_reader.specs.declared.number.NumberRead.TheVariants as number
 use Rattle.forth_reader.specs.Number.{is_digit, digits_value, signed_cell, digits_read, signed_read, based_read, prefix_base, unprefixed_read, number_read}
 use Rattle.dictionary_core.specs.Pairs.{Pair, newest_value}
-use Rattle.dictionary_core.specs.Buckets.{is_name}
+use Rattle.dictionary_core.specs.Buckets.{is_same_name}
 use Rattle.control_flow.specs.declared.sense.Sense.{Sense}
 use Rattle.control_flow.specs.declared.sense.Sense.TheVariants as sense
 use Rattle.control_flow.specs.Sense.{number_sense, structure_sense, library_sense, class_sense, sense_by, sense_of, sense_in}
@@ -35,7 +35,7 @@ below_on N v id None false more h e = absurd cc
 
 pub newest_below : (N : ℕ) (entries : List (Pair ℕ)) (asked : List ℕ) (id : ℕ) → AllBelow N entries → newest_value entries asked ≡ Some id → id < N
 newest_below N [] asked id h e = absurd cc
-newest_below N (p ∷ ps) asked id h e = below_on N p.value id (newest_value ps asked) (is_name asked p.name) (λ id f. newest_below N ps asked id h.1 f) h.0 e
+newest_below N (p ∷ ps) asked id h e = below_on N p.value id (newest_value ps asked) (is_same_name asked p.name) (λ id f. newest_below N ps asked id h.1 f) h.0 e
 
 pub below_more : (N : ℕ) (entries : List (Pair ℕ)) (p : Pair ℕ) → AllBelow N entries → p.value < N → AllBelow N (entries ++ p ∷ [])
 below_more N [] p h k = (k, tt)

@@ -16,9 +16,9 @@ use Rattle.control_flow.specs.declared.refusal.SourceCause.TheVariants as cause
 use Rattle.control_flow.specs.declared.nest.Ending.{Ending}
 use Rattle.control_flow.specs.declared.nest.Ending.TheVariants as ending
 use Rattle.control_flow.specs.Nest.{is_inside_do}
-use Rattle.control_flow.specs.Outcome.{Place, Outcome, Fine, Refused, NotBuilt, Endless, Each}
+use Rattle.control_flow.specs.ParseResult.{ParserState, ParseResult, Fine, Refused, NotBuilt, Endless, Each}
 use Rattle.control_flow.specs.Items.{items_at}
-use Rattle.control_flow.specs.SourceText.{Named, Source, Outside, is_reserved_name, is_colon_name, fixed_space, roomed, named_of, name_at, defined_by, definition_at, outside_of, outside_at, program_with, program_of, source_by, source_at, started, program_of_text}
+use Rattle.control_flow.specs.SourceText.{Named, Source, OutsideToken, is_reserved_name, is_colon_name, fixed_space, roomed, named_of, name_at, defined_by, definition_at, outside_of, outside_at, program_with, program_of_source, source_by, source_at, source_start, program_of_text}
 use Rattle.forth_program.specs.Weight.{weight as weight_of, bodies_weight}
 use Rattle.control_flow.specs.SourceLaw.{is_plain, is_read, IsSource, EachIsJudged, EachProgramIsSource}
 use Rattle.forth_program.specs.SourceTokens.{tokens_of, all_tokens}
@@ -134,7 +134,7 @@ pub record SourceRead (source : Source) : Type 0 where
   pub tokens : all_tokens source.bodies ≤ source.at.count
 
 -- a token was read, and nothing else changed
-record Passed (from at : Place) : Type 0 where
+record Passed (from at : ParserState) : Type 0 where
   entries : at.entries ≡ from.entries
   definitions : at.definitions ≡ from.definitions
   nest : at.nest ≡ from.nest
@@ -142,30 +142,30 @@ record Passed (from at : Place) : Type 0 where
   count : from.count < at.count
   left : length at.rest < length from.rest
 
-record NamedRead (from : Place) (named : Named) : Type 0 where
+record NamedRead (from : ParserState) (named : Named) : Type 0 where
   passed : Passed from named.at
   room : length named.at.entries < 512
 
-room_on : (t : Bool) (from at : Place) (name : List ℕ) → nat_lt (length at.entries) 512 ≡ t → Passed from at → Good (NamedRead from) (elim t [ true ↦ Fine (record { name = name; at = at }) | false ↦ Refused at.count cause.TooManyWords ])
+room_on : (t : Bool) (from at : ParserState) (name : List ℕ) → nat_lt (length at.entries) 512 ≡ t → Passed from at → Good (NamedRead from) (elim t [ true ↦ Fine (record { name = name; at = at }) | false ↦ Refused at.count cause.TooManyWords ])
 room_on true from at name e p = record { passed = p; room = ltb-true (length at.entries) 512 e }
 room_on false from at name e p = tt
 
-name_on : (t : Bool) (from at : Place) (name : List ℕ) (number : ℕ) → Passed from at → Good (NamedRead from) (elim t [ true ↦ Refused number cause.NeedsName | false ↦ roomed name at ])
+name_on : (t : Bool) (from at : ParserState) (name : List ℕ) (number : ℕ) → Passed from at → Good (NamedRead from) (elim t [ true ↦ Refused number cause.NeedsName | false ↦ roomed name at ])
 name_on true from at name number p = tt
 name_on false from at name number p = room_on (nat_lt (length at.entries) 512) from at name refl p
 
-named_read : (from : Place) (reading : Reading) → Passes from.count (length from.rest) reading → Good (NamedRead from) (named_of from reading)
+named_read : (from : ParserState) (reading : Reading) → Passes from.count (length from.rest) reading → Good (NamedRead from) (named_of from reading)
 named_read from (NoMore k) h = tt
 named_read from (Refuses k c) h = tt
 named_read from (Reads token k rest) h =
     name_on (is_reserved_name (word_named token)) from (record from { rest = rest; count = k }) token k (record { entries = refl; definitions = refl; nest = refl; weight = refl; count = h.0; left = h.1 })
 
-module _ (source : Source) (so_far : SourceRead source) (at : Place) (p : Passed source.at at) where
+module _ (source : Source) (so_far : SourceRead source) (at : ParserState) (p : Passed source.at at) where
   abbrev DefinitionRead : Source → Type 0
   DefinitionRead next = SourceRead next × (length next.at.rest < length at.rest)
 
   module _ (named : Named) (q : NamedRead at named) where
-    defined_on : (nodes : Nodes) (e : Ending) (end : Place) → ItemsRead named.at (record { nodes = nodes; ending = e; at = end }) → Good DefinitionRead (defined_by source named.name nodes end e)
+    defined_on : (nodes : Nodes) (e : Ending) (end : ParserState) → ItemsRead named.at (record { nodes = nodes; ending = e; at = end }) → Good DefinitionRead (defined_by source named.name nodes end e)
     defined_on nodes ending.Semicolon end r =
         let d : end.definitions ≡ source.at.definitions = r.definitions ∙ q.passed.definitions ∙ p.definitions in
         let es : end.entries ≡ source.at.entries = r.entries ∙ q.passed.entries ∙ p.entries in
@@ -211,16 +211,16 @@ module _ (source : Source) (so_far : SourceRead source) (at : Place) (p : Passed
 
 -- ---- outside definitions
 
-record OutsideRead (from : Place) (outside : Outside) : Type 0 where
+record OutsideRead (from : ParserState) (outside : OutsideToken) : Type 0 where
   entries : outside.at.entries ≡ from.entries
   count : from.count ≤ outside.at.count
   passed : outside.begins ≡ true → Passed from outside.at
 
-colon_on : (t : Bool) (from at : Place) → Passed from at → Good (OutsideRead from) (elim t [ true ↦ Fine (record { begins = true; at = at }) | false ↦ NotBuilt ])
+colon_on : (t : Bool) (from at : ParserState) → Passed from at → Good (OutsideRead from) (elim t [ true ↦ Fine (record { begins = true; at = at }) | false ↦ NotBuilt ])
 colon_on true from at p = record { entries = p.entries; count = omega (arith, p.count); passed = λ e. p }
 colon_on false from at p = tt
 
-outside_read : (from : Place) (reading : Reading) → Passes from.count (length from.rest) reading → Good (OutsideRead from) (outside_of from reading)
+outside_read : (from : ParserState) (reading : Reading) → Passes from.count (length from.rest) reading → Good (OutsideRead from) (outside_of from reading)
 outside_read from (NoMore k) h = record { entries = refl; count = h; passed = λ e. absurd cc }
 outside_read from (Refuses k c) h = tt
 outside_read from (Reads token k rest) h =
@@ -234,7 +234,7 @@ all_bytes (b ∷ bs) h =
     let both = and_parts (nat_lt b 256) (list_all (λ byte. nat_lt byte 256) bs) h in
     All-cons (λ byte. byte < 256) b bs (ltb-true b 256 both.0) (all_bytes bs both.1)
 
-module _ (source : Source) (so_far : SourceRead source) (at : Place) (es : at.entries ≡ source.at.entries) (c : source.at.count ≤ at.count) where
+module _ (source : Source) (so_far : SourceRead source) (at : ParserState) (es : at.entries ≡ source.at.entries) (c : source.at.count ≤ at.count) where
   is_source : (main : ℕ) → main < length source.bodies → IsSource (program_with source.names source.bodies main at.count)
   is_source main h = record {
     form = record {
@@ -264,11 +264,11 @@ module _ (source : Source) (so_far : SourceRead source) (at : Place) (es : at.en
   main_on (Some main) e = is_source main (omega (arith, newest_below source.at.definitions source.at.entries (codes "MAIN") main so_far.below (ap (λ l. newest_value l (codes "MAIN")) (sym es) ∙ e), so_far.counted))
   main_on None e = tt
 
-  program_read : Good IsSource (program_of source at)
+  program_read : Good IsSource (program_of_source source at)
   program_read = main_on (newest_value at.entries (codes "MAIN")) refl
 
 module _ (n : ℕ) (source : Source) (so_far : SourceRead source) (h : length source.at.rest < suc n) (goes : (next : Source) → SourceRead next → length next.at.rest < n → Good IsSource (source_at n next)) where
-  outside_on : (begins : Bool) (at : Place) → OutsideRead source.at (record { begins = begins; at = at }) → Good IsSource (source_by (source_at n) n source (record { begins = begins; at = at }))
+  outside_on : (begins : Bool) (at : ParserState) → OutsideRead source.at (record { begins = begins; at = at }) → Good IsSource (source_by (source_at n) n source (record { begins = begins; at = at }))
   outside_on true at o =
       let p : Passed source.at at = o.passed refl in
       good_then (λ next. SourceRead next × (length next.at.rest < length at.rest)) IsSource (definition_at n source at) _ (definition_read source so_far at p n (omega (arith, p.left))) (λ next d. goes next d.0 (omega (arith, d.1, p.left)))
@@ -282,11 +282,11 @@ source_read (suc n) source s h =
     (outside_read source.at (next_from source.at.count source.at.rest) (next_passes source.at.count (length source.at.rest) source.at.count source.at.rest (omega arith) (omega arith)))
     (λ outside o. outside_on n source s h (source_read n) outside.begins outside.at o)
 
-started_read : (text : List ℕ) → SourceRead (started text)
+started_read : (text : List ℕ) → SourceRead (source_start text)
 started_read text = record { counted = refl; names = refl; entries = refl; few = omega arith; below = tt; nest = refl; items = refl; back = refl; leaves = refl; weight = omega arith; light = omega arith; tokens = omega arith }
 
 pub text_read : (text : List ℕ) → Good IsSource (program_of_text text)
-text_read text = source_read (suc (length text)) (started text) (started_read text) (omega arith)
+text_read text = source_read (suc (length text)) (source_start text) (started_read text) (omega arith)
 
 pub judged : EachIsJudged
 judged text e = subst (Good IsSource) e (text_read text)
@@ -294,7 +294,7 @@ judged text e = subst (Good IsSource) e (text_read text)
 pub programs_are_sources : EachProgramIsSource
 programs_are_sources text program e = good_is IsSource (program_of_text text) program e (text_read text)
 
-pub program_form : (o : Outcome SourceProgram) → Good IsSource o → Each IsProgram o
+pub program_form : (o : ParseResult SourceProgram) → Good IsSource o → Each IsProgram o
 program_form (Fine program) h = h.form
 program_form (Refused k c) h = tt
 program_form NotBuilt h = tt

@@ -13,107 +13,107 @@ use Rattle.control_flow.specs.declared.nest.Ending.{Ending}
 use Rattle.control_flow.specs.declared.nest.Ending.TheVariants as ending
 use Rattle.control_flow.specs.declared.sense.Sense.{Sense}
 use Rattle.control_flow.specs.declared.sense.Sense.TheVariants as sense
-use Rattle.control_flow.specs.Nest.{open_of, with_open, ended, is_inside_do}
+use Rattle.control_flow.specs.Nest.{open_of, with_open, nest_ended, is_inside_do}
 use Rattle.control_flow.specs.Sense.{opening_word, ending_word, sense_in}
-use Rattle.control_flow.specs.Outcome.{Place, Outcome, Fine, Refused, NotBuilt, Endless, ◌>>=◌, source_cause, weighed, unfit}
+use Rattle.control_flow.specs.ParseResult.{ParserState, ParseResult, Fine, Refused, NotBuilt, Endless, ◌>>=◌, source_cause, weighed, unfit}
 
 -- a token that was read, by what it stands for, and where it ends
-pub record Seen : Type 0 where
+pub record ReadToken : Type 0 where
   pub sense : Sense
-  pub at : Place
+  pub at : ParserState
 
 -- an item, and where it ends
 pub record One : Type 0 where
   pub node : Node
-  pub at : Place
+  pub at : ParserState
 
 -- items, the word that ends them, and where that word ends
 pub record Many : Type 0 where
   pub nodes : Nodes
   pub ending : Ending
-  pub at : Place
+  pub at : ParserState
 
 -- the body of an arm, and where its ENDOF ends
 pub record Body : Type 0 where
   pub nodes : Nodes
-  pub at : Place
+  pub at : ParserState
 
 -- the arms of a CASE, the items behind them, and where its ENDCASE ends
 pub record Cases : Type 0 where
   pub arms : Arms
   pub rest : Nodes
-  pub at : Place
+  pub at : ParserState
 
-abbrev pub seen_of : Place → Reading → Outcome Seen
-seen_of at (NoMore tokens) = Refused (tokens + 1) cause.OpenDefinition
-seen_of at (Refuses number c) = Refused number (source_cause c)
-seen_of at (Reads token number rest) = Fine (record { sense = sense_in at.entries token; at = record at { rest = rest; count = number } })
+abbrev pub read_token_of : ParserState → Reading → ParseResult ReadToken
+read_token_of at (NoMore tokens) = Refused (tokens + 1) cause.OpenDefinition
+read_token_of at (Refuses number c) = Refused number (source_cause c)
+read_token_of at (Reads token number rest) = Fine (record { sense = sense_in at.entries token; at = record at { rest = rest; count = number } })
 
 -- the next token of a definition
-abbrev pub token_at : Place → Outcome Seen
-token_at at = seen_of at (next_from at.count at.rest)
+abbrev pub token_at : ParserState → ParseResult ReadToken
+token_at at = read_token_of at (next_from at.count at.rest)
 
 -- what the nest says of a word
-abbrev pub nested : Place → Result (List Open) SourceCause → Outcome Place
+abbrev pub nested : ParserState → Result (List Open) SourceCause → ParseResult ParserState
 nested at (Ok nest) = Fine (record at { nest = nest })
 nested at (Err c) = Refused at.count c
 
 -- a word that opens a structure, or ends a list of items, with its weight
-abbrev pub opened_at : Opening → Place → Outcome Place
+abbrev pub opened_at : Opening → ParserState → ParseResult ParserState
 opened_at o at = nested at (with_open (open_of o) at.nest) >>= weighed (entry_of (opening_word o)).weight
 
-abbrev pub ended_at : Ending → Place → Outcome Place
-ended_at e at = nested at (ended at.nest e) >>= weighed (entry_of (ending_word e)).weight
+abbrev pub ended_at : Ending → ParserState → ParseResult ParserState
+ended_at e at = nested at (nest_ended at.nest e) >>= weighed (entry_of (ending_word e)).weight
 
 -- ---- structures, behind the word that opens them; `go` reads items up to the word that ends them
 
-abbrev pub else_by : Nodes → Nodes → Place → Ending → Outcome One
+abbrev pub else_by : Nodes → Nodes → ParserState → Ending → ParseResult One
 else_by first second at ending.Then = Fine (record { node = If first second; at = at })
 else_by first second at e = unfit at
 
-abbrev pub if_by : (Place → Outcome Many) → Nodes → Place → Ending → Outcome One
+abbrev pub if_by : (ParserState → ParseResult Many) → Nodes → ParserState → Ending → ParseResult One
 if_by go first at ending.Then = Fine (record { node = If first Empty; at = at })
 if_by go first at ending.Else = go at >>= λ second. else_by first second.nodes second.at second.ending
 if_by go first at e = unfit at
 
-abbrev pub if_at : (Place → Outcome Many) → Place → Outcome One
+abbrev pub if_at : (ParserState → ParseResult Many) → ParserState → ParseResult One
 if_at go at = go at >>= λ first. if_by go first.nodes first.at first.ending
 
-abbrev pub while_by : Nodes → Nodes → Place → Ending → Outcome One
+abbrev pub while_by : Nodes → Nodes → ParserState → Ending → ParseResult One
 while_by test body at ending.Repeat = Fine (record { node = While test body; at = at })
 while_by test body at e = unfit at
 
-abbrev pub begin_by : (Place → Outcome Many) → Nodes → Place → Ending → Outcome One
+abbrev pub begin_by : (ParserState → ParseResult Many) → Nodes → ParserState → Ending → ParseResult One
 begin_by go first at ending.Until = Fine (record { node = Until first; at = at })
 begin_by go first at ending.Again = Fine (record { node = Again first; at = at })
 begin_by go first at ending.While = go at >>= λ body. while_by first body.nodes body.at body.ending
 begin_by go first at e = unfit at
 
-abbrev pub begin_at : (Place → Outcome Many) → Place → Outcome One
+abbrev pub begin_at : (ParserState → ParseResult Many) → ParserState → ParseResult One
 begin_at go at = go at >>= λ first. begin_by go first.nodes first.at first.ending
 
-abbrev pub do_by : Nodes → Place → Ending → Outcome One
+abbrev pub do_by : Nodes → ParserState → Ending → ParseResult One
 do_by body at ending.Loop = Fine (record { node = Do body false; at = at })
 do_by body at ending.PlusLoop = Fine (record { node = Do body true; at = at })
 do_by body at e = unfit at
 
-abbrev pub do_at : (Place → Outcome Many) → Place → Outcome One
+abbrev pub do_at : (ParserState → ParseResult Many) → ParserState → ParseResult One
 do_at go at = go at >>= λ body. do_by body.nodes body.at body.ending
 
-abbrev pub q_do_by : Nodes → Place → Ending → Outcome One
+abbrev pub q_do_by : Nodes → ParserState → Ending → ParseResult One
 q_do_by body at ending.Loop = Fine (record { node = QDo body false; at = at })
 q_do_by body at ending.PlusLoop = Fine (record { node = QDo body true; at = at })
 q_do_by body at e = unfit at
 
-abbrev pub q_do_at : (Place → Outcome Many) → Place → Outcome One
+abbrev pub q_do_at : (ParserState → ParseResult Many) → ParserState → ParseResult One
 q_do_at go at = go at >>= λ body. q_do_by body.nodes body.at body.ending
 
 -- the body of an arm, behind its OF
-abbrev pub body_by : Nodes → Place → Ending → Outcome Body
+abbrev pub body_by : Nodes → ParserState → Ending → ParseResult Body
 body_by nodes at ending.EndOf = Fine (record { nodes = nodes; at = at })
 body_by nodes at e = unfit at
 
-abbrev pub body_at : (Place → Outcome Many) → Place → Outcome Body
+abbrev pub body_at : (ParserState → ParseResult Many) → ParserState → ParseResult Body
 body_at go at = go at >>= λ body. body_by body.nodes body.at body.ending
 
 -- an arm in front
@@ -121,20 +121,20 @@ abbrev pub with_arm : Nodes → Nodes → Cases → Cases
 with_arm tests body cases = record cases { arms = Arm tests body cases.arms }
 
 -- an arm and the others, or the end of the case
-abbrev pub arms_by : (Place → Outcome Many) → (Place → Outcome Cases) → Nodes → Place → Ending → Outcome Cases
+abbrev pub arms_by : (ParserState → ParseResult Many) → (ParserState → ParseResult Cases) → Nodes → ParserState → Ending → ParseResult Cases
 arms_by go others tests at ending.Of = body_at go at >>= λ body. others body.at >>= λ cases. Fine (with_arm tests body.nodes cases)
 arms_by go others tests at ending.EndCase = Fine (record { arms = NoArm; rest = tests; at = at })
 arms_by go others tests at e = unfit at
 
 -- fewer than m arms
-abbrev pub arms_at : (Place → Outcome Many) → ℕ → Place → Outcome Cases
+abbrev pub arms_at : (ParserState → ParseResult Many) → ℕ → ParserState → ParseResult Cases
 arms_at go zero at = Endless
 arms_at go (suc m) at = go at >>= λ tests. arms_by go (arms_at go m) tests.nodes tests.at tests.ending
 
-abbrev pub case_at : (Place → Outcome Many) → ℕ → Place → Outcome One
+abbrev pub case_at : (ParserState → ParseResult Many) → ℕ → ParserState → ParseResult One
 case_at go m at = arms_at go m at >>= λ cases. Fine (record { node = Case cases.arms cases.rest; at = cases.at })
 
-abbrev pub structure_at : (Place → Outcome Many) → ℕ → Opening → Place → Outcome One
+abbrev pub structure_at : (ParserState → ParseResult Many) → ℕ → Opening → ParserState → ParseResult One
 structure_at go m opening.If at = if_at go at
 structure_at go m opening.Begin at = begin_at go at
 structure_at go m opening.Do at = do_at go at
@@ -144,11 +144,11 @@ structure_at go m opening.Case at = case_at go m at
 -- ---- items
 
 -- an item that is one token, with its weight
-abbrev pub alone : ℕ → Node → Place → Outcome One
+abbrev pub alone : ℕ → Node → ParserState → ParseResult One
 alone weight node at = weighed weight at >>= λ after. Fine (record { node = node; at = after })
 
 -- the item that begins with a token of this sense, which ends at the place
-abbrev pub item_at : (Place → Outcome Many) → ℕ → Place → Sense → Outcome One
+abbrev pub item_at : (ParserState → ParseResult Many) → ℕ → ParserState → Sense → ParseResult One
 item_at go m at (sense.Number value) = alone 2 (Literal value) at
 item_at go m at (sense.Plain w) = alone (entry_of w).weight (Plain w) at
 item_at go m at (sense.Calls definition) = alone 1 (Call definition) at
@@ -162,10 +162,10 @@ item_at go m at sense.Unknown = Refused at.count cause.UnknownWord
 item_at go m at sense.NotYet = NotBuilt
 
 -- the item, and those behind it
-abbrev pub then_items : (Place → Outcome Many) → Outcome One → Outcome Many
+abbrev pub then_items : (ParserState → ParseResult Many) → ParseResult One → ParseResult Many
 then_items go first = first >>= λ one. go one.at >>= λ many. Fine (record many { nodes = Then one.node many.nodes })
 
-abbrev pub items_by : (Place → Outcome Many) → ℕ → Place → Sense → Outcome Many
+abbrev pub items_by : (ParserState → ParseResult Many) → ℕ → ParserState → Sense → ParseResult Many
 items_by go m at (sense.Ends e) = ended_at e at >>= λ after. Fine (record { nodes = Empty; ending = e; at = after })
 items_by go m at (sense.Number value) = then_items go (item_at go m at (sense.Number value))
 items_by go m at (sense.Plain w) = then_items go (item_at go m at (sense.Plain w))
@@ -179,6 +179,6 @@ items_by go m at sense.Unknown = then_items go (item_at go m at sense.Unknown)
 items_by go m at sense.NotYet = then_items go (item_at go m at sense.NotYet)
 
 -- the items from a place on, where fewer than n tokens are read
-unfoldable pub items_at : ℕ → Place → Outcome Many
+unfoldable pub items_at : ℕ → ParserState → ParseResult Many
 items_at zero at = Endless
 items_at (suc n) at = token_at at >>= λ seen. items_by (items_at n) n seen.at seen.sense

@@ -1,4 +1,4 @@
-pub mod Outcome
+pub mod ParseResult
 pub mod Nest
 pub mod Sense
 pub mod Items

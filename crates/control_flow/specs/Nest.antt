@@ -52,9 +52,9 @@ ended_outside ending.Semicolon = Ok []
 ended_outside word = Err cause.BadNest
 
 -- the open structures behind a word that ends a list of items
-abbrev pub ended : List Open → Ending → Result (List Open) SourceCause
-ended [] word = ended_outside word
-ended (o ∷ nest) word = stepped (step_of o word) o nest
+abbrev pub nest_ended : List Open → Ending → Result (List Open) SourceCause
+nest_ended [] word = ended_outside word
+nest_ended (o ∷ nest) word = stepped (step_of o word) o nest
 
 abbrev pub is_do : Open → Bool
 is_do kind.Do = true
@@ -69,8 +69,8 @@ any_do (o ∷ os) = is_do o || any_do os
 abbrev pub is_inside_do : List Open → Bool
 is_inside_do nest = any_do nest
 
-abbrev pub left : List Open → Result (List Open) SourceCause
-left nest = elim (is_inside_do nest) [ true ↦ Ok nest | false ↦ Err cause.BadNest ]
+abbrev pub nest_left : List Open → Result (List Open) SourceCause
+nest_left nest = elim (is_inside_do nest) [ true ↦ Ok nest | false ↦ Err cause.BadNest ]
 
 -- the open structures behind a word that opens one
 abbrev pub opened_by : List Open → Word → Result (List Open) SourceCause
@@ -79,23 +79,23 @@ opened_by nest word.Begin = with_open kind.Begin nest
 opened_by nest word.Do = with_open kind.Do nest
 opened_by nest word.QDo = with_open kind.Do nest
 opened_by nest word.Case = with_open kind.Case nest
-opened_by nest word.Of = ended nest ending.Of
+opened_by nest word.Of = nest_ended nest ending.Of
 opened_by nest w = Err cause.BadNest
 
 -- and behind one that ends, parts or leaves one
-abbrev pub closed_by : List Open → Word → Result (List Open) SourceCause
-closed_by nest word.Else = ended nest ending.Else
-closed_by nest word.Then = ended nest ending.Then
-closed_by nest word.Until = ended nest ending.Until
-closed_by nest word.While = ended nest ending.While
-closed_by nest word.Repeat = ended nest ending.Repeat
-closed_by nest word.Again = ended nest ending.Again
-closed_by nest word.Loop = ended nest ending.Loop
-closed_by nest word.PlusLoop = ended nest ending.PlusLoop
-closed_by nest word.EndOf = ended nest ending.EndOf
-closed_by nest word.EndCase = ended nest ending.EndCase
-closed_by nest word.Leave = left nest
-closed_by nest w = Err cause.BadNest
+abbrev pub nest_closed_by : List Open → Word → Result (List Open) SourceCause
+nest_closed_by nest word.Else = nest_ended nest ending.Else
+nest_closed_by nest word.Then = nest_ended nest ending.Then
+nest_closed_by nest word.Until = nest_ended nest ending.Until
+nest_closed_by nest word.While = nest_ended nest ending.While
+nest_closed_by nest word.Repeat = nest_ended nest ending.Repeat
+nest_closed_by nest word.Again = nest_ended nest ending.Again
+nest_closed_by nest word.Loop = nest_ended nest ending.Loop
+nest_closed_by nest word.PlusLoop = nest_ended nest ending.PlusLoop
+nest_closed_by nest word.EndOf = nest_ended nest ending.EndOf
+nest_closed_by nest word.EndCase = nest_ended nest ending.EndCase
+nest_closed_by nest word.Leave = nest_left nest
+nest_closed_by nest w = Err cause.BadNest
 
 -- a call makes of a nest what is said, or refuses with the cause and changes nothing
 abbrev pub Nested : {A : Type 0} → List Open → List Open → Result A SourceCause → Result (List Open) SourceCause → Type 0

@@ -9,7 +9,7 @@ use Rattle.forth_program.specs.Form.{IsProgram, everywhere, calls_go_back, is_co
 use Rattle.forth_program.specs.Weight.{bodies_weight}
 use Rattle.forth_program.specs.Program.{SourceProgram}
 use Rattle.forth_program.specs.SourceTokens.{all_tokens}
-use Rattle.control_flow.specs.Outcome.{Fine, Endless}
+use Rattle.control_flow.specs.ParseResult.{Fine, Endless}
 use Rattle.control_flow.specs.SourceText.{program_of_text}
 
 -- a text has a program, a first refusal, or a token that is not built

@@ -10,13 +10,13 @@ use Rattle.dictionary_core.specs.Pairs.{pair, newest_value}
 use Rattle.control_flow.specs.declared.refusal.SourceCause.TheVariants as cause
 use Rattle.control_flow.specs.declared.nest.Ending.{Ending}
 use Rattle.control_flow.specs.declared.nest.Ending.TheVariants as ending
-use Rattle.control_flow.specs.Outcome.{Place, Outcome, Fine, Refused, NotBuilt, Endless, ◌>>=◌, source_cause, unfit}
+use Rattle.control_flow.specs.ParseResult.{ParserState, ParseResult, Fine, Refused, NotBuilt, Endless, ◌>>=◌, source_cause, unfit}
 use Rattle.control_flow.specs.Items.{items_at}
 
 -- a name that was read, and where it ends
 pub record Named : Type 0 where
   pub name : List ℕ
-  pub at : Place
+  pub at : ParserState
 
 -- the words whose names cannot be defined
 abbrev pub is_reserved : Word → Bool
@@ -34,10 +34,10 @@ is_reserved_name (Some word) = is_reserved word
 is_reserved_name None = false
 
 -- a name with this number that can be defined is the 513th, or not
-abbrev pub roomed : List ℕ → Place → Outcome Named
+abbrev pub roomed : List ℕ → ParserState → ParseResult Named
 roomed name at = elim (nat_lt (length at.entries) 512) [ true ↦ Fine (record { name = name; at = at }) | false ↦ Refused at.count cause.TooManyWords ]
 
-abbrev pub named_of : Place → Reading → Outcome Named
+abbrev pub named_of : ParserState → Reading → ParseResult Named
 named_of at (NoMore tokens) = Refused (tokens + 1) cause.NeedsName
 named_of at (Refuses number c) = Refused number (source_cause c)
 named_of at (Reads token number rest) = elim (is_reserved_name (word_named token)) [
@@ -46,32 +46,32 @@ named_of at (Reads token number rest) = elim (is_reserved_name (word_named token
 ]
 
 -- the name of a definition, behind its `:`
-abbrev pub name_at : Place → Outcome Named
+abbrev pub name_at : ParserState → ParseResult Named
 name_at at = named_of at (name_from at.count at.rest)
 
 -- a source so far: where it is read on, and the names and bodies of its definitions, in their order
 pub record Source : Type 0 where
-  pub at : Place
+  pub at : ParserState
   pub names : List (List ℕ)
   pub bodies : List Nodes
 
 -- the name is found from here on
-abbrev pub with_entry : List ℕ → Place → Place
+abbrev pub with_entry : List ℕ → ParserState → ParserState
 with_entry name at = record at { entries = at.entries ++ pair name at.definitions ∷ []; definitions = at.definitions + 1 }
 
-abbrev pub with_definition : Source → List ℕ → Nodes → Place → Source
+abbrev pub with_definition : Source → List ℕ → Nodes → ParserState → Source
 with_definition source name nodes at = record { at = with_entry name at; names = source.names ++ name ∷ []; bodies = source.bodies ++ nodes ∷ [] }
 
 -- a definition ends with its `;`
-abbrev pub defined_by : Source → List ℕ → Nodes → Place → Ending → Outcome Source
+abbrev pub defined_by : Source → List ℕ → Nodes → ParserState → Ending → ParseResult Source
 defined_by source name nodes at ending.Semicolon = Fine (with_definition source name nodes at)
 defined_by source name nodes at e = unfit at
 
-abbrev pub definition_named : ℕ → Source → Named → Outcome Source
+abbrev pub definition_named : ℕ → Source → Named → ParseResult Source
 definition_named n source named = items_at n named.at >>= λ many. defined_by source named.name many.nodes many.at many.ending
 
 -- a definition behind its `:`, where the source is read on at a place
-abbrev pub definition_at : ℕ → Source → Place → Outcome Source
+abbrev pub definition_at : ℕ → Source → ParserState → ParseResult Source
 definition_at n source at = name_at at >>= definition_named n source
 
 abbrev pub is_colon : Word → Bool
@@ -83,12 +83,12 @@ is_colon_name (Some word) = is_colon word
 is_colon_name None = false
 
 -- what stands outside definitions: a `:` or the end of the text, and where it ends
-pub record Outside : Type 0 where
+pub record OutsideToken : Type 0 where
   pub begins : Bool
-  pub at : Place
+  pub at : ParserState
 
 -- every other token is not built
-abbrev pub outside_of : Place → Reading → Outcome Outside
+abbrev pub outside_of : ParserState → Reading → ParseResult OutsideToken
 outside_of at (NoMore tokens) = Fine (record { begins = false; at = record at { rest = []; count = tokens } })
 outside_of at (Refuses number c) = Refused number (source_cause c)
 outside_of at (Reads token number rest) = elim (is_colon_name (word_named token)) [
@@ -96,7 +96,7 @@ outside_of at (Reads token number rest) = elim (is_colon_name (word_named token)
   | false ↦ NotBuilt
 ]
 
-abbrev pub outside_at : Place → Outcome Outside
+abbrev pub outside_at : ParserState → ParseResult OutsideToken
 outside_at at = outside_of at (next_from at.count at.rest)
 
 -- the cells BASE, hold pointer and HERE at 8192, 8194 and 8196, and zeros up to the first free byte 8320
@@ -116,31 +116,31 @@ program_with names bodies main tokens = record {
 }
 
 -- at the end of the text there has to be a MAIN
-abbrev pub program_of : Source → Place → Outcome SourceProgram
-program_of source at = elim (newest_value at.entries (codes "MAIN")) [
+abbrev pub program_of_source : Source → ParserState → ParseResult SourceProgram
+program_of_source source at = elim (newest_value at.entries (codes "MAIN")) [
   | Some main ↦ Fine (program_with source.names source.bodies main at.count)
   | None ↦ Refused (at.count + 1) cause.NoMain
 ]
 
 -- a definition and what follows it, or the end
-abbrev pub source_by : (Source → Outcome SourceProgram) → ℕ → Source → Outside → Outcome SourceProgram
+abbrev pub source_by : (Source → ParseResult SourceProgram) → ℕ → Source → OutsideToken → ParseResult SourceProgram
 source_by go n source outside = elim outside.begins [
   | true ↦ definition_at n source outside.at >>= go
-  | false ↦ program_of source outside.at
+  | false ↦ program_of_source source outside.at
 ]
 
 -- the program of a source from a place outside definitions on, where fewer than n tokens are read
-unfoldable pub source_at : ℕ → Source → Outcome SourceProgram
+unfoldable pub source_at : ℕ → Source → ParseResult SourceProgram
 source_at zero source = Endless
 source_at (suc n) source = outside_at source.at >>= source_by (source_at n) n source
 
 -- a text at its start
-abbrev pub beginning : List ℕ → Place
+abbrev pub beginning : List ℕ → ParserState
 beginning text = record { rest = text; count = 0; weight = 0; nest = []; entries = []; definitions = 0 }
 
-abbrev pub started : List ℕ → Source
-started text = record { at = beginning text; names = []; bodies = [] }
+abbrev pub source_start : List ℕ → Source
+source_start text = record { at = beginning text; names = []; bodies = [] }
 
 -- the program of a text, its first refusal, or that it is not built yet
-abbrev pub program_of_text : List ℕ → Outcome SourceProgram
-program_of_text text = source_at (suc (length text)) (started text)
+abbrev pub program_of_text : List ℕ → ParseResult SourceProgram
+program_of_text text = source_at (suc (length text)) (source_start text)

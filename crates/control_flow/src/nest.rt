@@ -1,6 +1,6 @@
 // The open structures of a definition.
 ghost use Rattle.std.specs.Prelude.{◌≡◌, []};
-ghost use Rattle.control_flow.specs.Nest.{open_of, step_of, with_open, ended, ended_outside, is_do, any_do, is_inside_do, left, opened_by, closed_by, Nested};
+ghost use Rattle.control_flow.specs.Nest.{open_of, step_of, with_open, nest_ended, ended_outside, is_do, any_do, is_inside_do, nest_left, opened_by, nest_closed_by, Nested};
 ghost use Rattle.control_flow.specs.Sense.{opening_word, ending_word};
 
 use crate::refusal::SourceCause;
@@ -208,7 +208,7 @@ impl Nest {
 
     /// A word ends a list of items.
     pub(crate) fn end(&mut self, ending: Ending) -> Result<(), SourceCause>
-        ensures { Nested self.old self.new result (ended self.old ending) }
+        ensures { Nested self.old self.new result (nest_ended self.old ending) }
     {
         let Some(top) = self.structures.pop() else {
             return match ending {
@@ -245,7 +245,7 @@ impl Nest {
     }
 
     fn leave(&self) -> Result<(), SourceCause>
-        ensures { Nested self.now self.now result (left self.now) }
+        ensures { Nested self.now self.now result (nest_left self.now) }
     {
         if self.is_inside_do() {
             Ok(())
@@ -273,7 +273,7 @@ impl Nest {
     /// A word ends, parts or leaves the innermost structure. `ELSE` and `WHILE` leave it open, and so does `LEAVE`. BadNest comes
     /// exactly where the word does not fit. A refusal changes nothing.
     pub fn closes(&mut self, word: Word) -> Result<(), SourceCause>
-        ensures { Nested self.old self.new result (closed_by self.old word) }
+        ensures { Nested self.old self.new result (nest_closed_by self.old word) }
     {
         match word {
             Word::Else => self.end(Ending::Else),

@@ -1,13 +1,13 @@
 // Reading the items of a definition.
 ghost use Rattle.std.specs.Prelude.{◌≡◌, ℕ, ◌+◌, ◌<◌, ◌≤◌, length, true, None, OnOk, IfOk};
 ghost use Rattle.forth_program.specs.ItemTrees.{node_of, tree_of};
-ghost use Rattle.forth_reader.specs.ReaderState.{IsToken};
+ghost use Rattle.forth_reader.specs.Name.{IsName};
 ghost use Rattle.dictionary_core.specs.Pairs.{newest_value};
-ghost use Rattle.control_flow.specs.Outcome.{weighed};
+ghost use Rattle.control_flow.specs.ParseResult.{weighed};
 ghost use Rattle.control_flow.specs.Sense.{sense_in};
 ghost use Rattle.control_flow.specs.Items.{token_at, opened_at, ended_at, if_at, begin_at, do_at, q_do_at, body_at, case_at, structure_at, alone, item_at, items_at};
 ghost use Rattle.control_flow.specs.SourceText.{name_at, outside_at};
-ghost use Rattle.control_flow.specs.Answers.{place_of, IsReady, Gives};
+ghost use Rattle.control_flow.specs.Answers.{parser_state, IsReadyParser, AnswersAs};
 
 use crate::nest::{Ending, Nest, Opening, ending_word, open_of, opening_word};
 use crate::refusal::{SourceCause, SourceError, refused, source_cause};
@@ -48,10 +48,10 @@ pub(crate) struct Ended {
 impl<'a> Parser<'a> {
     /// Adds a weight. CodeFull comes where the sum then passes the limit.
     fn weigh(&mut self, weight: u16) -> Result<(), SourceError>
-        requires { IsReady self.old }
-        ensures gives { Gives (λ _. place_of self.new) result (weighed weight (place_of self.old)) }
+        requires { IsReadyParser self.old }
+        ensures gives { AnswersAs (λ _. parser_state self.new) result (weighed weight (parser_state self.old)) }
         ensures same { length self.new.reader.rest ≡ length self.old.reader.rest }
-        ensures ready { OnOk result (IsReady self.new) }
+        ensures ready { OnOk result (IsReadyParser self.new) }
     {
         if self.weight + u32::from(weight) > MOST_WEIGHT {
             return refused(self.reader.count(), SourceCause::CodeFull);
@@ -62,10 +62,10 @@ impl<'a> Parser<'a> {
 
     /// A structure opens.
     fn open(&mut self, opening: Opening) -> Result<(), SourceError>
-        requires { IsReady self.old }
-        ensures gives { Gives (λ _. place_of self.new) result (opened_at opening (place_of self.old)) }
+        requires { IsReadyParser self.old }
+        ensures gives { AnswersAs (λ _. parser_state self.new) result (opened_at opening (parser_state self.old)) }
         ensures same { length self.new.reader.rest ≡ length self.old.reader.rest }
-        ensures ready { OnOk result (IsReady self.new) }
+        ensures ready { OnOk result (IsReadyParser self.new) }
     {
         match self.nest.open(open_of(opening)) {
             Ok(()) => self.weigh(entry(opening_word(opening)).weight),
@@ -75,10 +75,10 @@ impl<'a> Parser<'a> {
 
     /// A word ends a list of items.
     fn end(&mut self, ending: Ending) -> Result<(), SourceError>
-        requires { IsReady self.old }
-        ensures gives { Gives (λ _. place_of self.new) result (ended_at ending (place_of self.old)) }
+        requires { IsReadyParser self.old }
+        ensures gives { AnswersAs (λ _. parser_state self.new) result (ended_at ending (parser_state self.old)) }
         ensures same { length self.new.reader.rest ≡ length self.old.reader.rest }
-        ensures ready { OnOk result (IsReady self.new) }
+        ensures ready { OnOk result (IsReadyParser self.new) }
     {
         match self.nest.end(ending) {
             Ok(()) => self.weigh(entry(ending_word(ending)).weight),
@@ -89,7 +89,7 @@ impl<'a> Parser<'a> {
     /// What a token stands for: first a name that is defined.
     fn sense(&mut self, token: &str) -> Sense
         ensures value { result ≡ sense_in self.old.dictionary.pairs token.now }
-        ensures same { place_of self.new ≡ place_of self.old }
+        ensures same { parser_state self.new ≡ parser_state self.old }
         ensures reader { self.new.reader ≡ self.old.reader }
         ensures weight { self.new.weight ≡ self.old.weight }
     {
@@ -101,10 +101,10 @@ impl<'a> Parser<'a> {
 
     /// The next token of a definition, by what it stands for.
     fn token(&mut self) -> Result<Sense, SourceError>
-        requires { IsReady self.old }
-        ensures gives { Gives (λ sense. record { sense = sense; at = place_of self.new }) result (token_at (place_of self.old)) }
+        requires { IsReadyParser self.old }
+        ensures gives { AnswersAs (λ sense. record { sense = sense; at = parser_state self.new }) result (token_at (parser_state self.old)) }
         ensures shorter { OnOk result (length self.new.reader.rest < length self.old.reader.rest) }
-        ensures ready { OnOk result (IsReady self.new) }
+        ensures ready { OnOk result (IsReadyParser self.new) }
     {
         match self.reader.next() {
             Err(refusal) => refused(refusal.token, source_cause(refusal.cause)),
@@ -123,10 +123,10 @@ impl<'a> Parser<'a> {
     /// `IF` up to its `THEN`.
     #[cycle(items)]
     fn if_item(&mut self, alloc: Global) -> Result<Item, SourceError>
-        requires { IsReady self.old }
-        ensures gives { (n : ℕ) → length self.old.reader.rest < n → Gives (λ item. record { node = node_of item; at = place_of self.new }) result (if_at (items_at n) (place_of self.old)) }
+        requires { IsReadyParser self.old }
+        ensures gives { (n : ℕ) → length self.old.reader.rest < n → AnswersAs (λ item. record { node = node_of item; at = parser_state self.new }) result (if_at (items_at n) (parser_state self.old)) }
         ensures shorter { OnOk result (length self.new.reader.rest ≤ length self.old.reader.rest) }
-        ensures ready { OnOk result (IsReady self.new) }
+        ensures ready { OnOk result (IsReadyParser self.new) }
     {
         let first = self.items(alloc)?;
         match first.ending {
@@ -145,10 +145,10 @@ impl<'a> Parser<'a> {
     /// `BEGIN` up to its `UNTIL`, `AGAIN` or `REPEAT`.
     #[cycle(items)]
     fn begin_item(&mut self, alloc: Global) -> Result<Item, SourceError>
-        requires { IsReady self.old }
-        ensures gives { (n : ℕ) → length self.old.reader.rest < n → Gives (λ item. record { node = node_of item; at = place_of self.new }) result (begin_at (items_at n) (place_of self.old)) }
+        requires { IsReadyParser self.old }
+        ensures gives { (n : ℕ) → length self.old.reader.rest < n → AnswersAs (λ item. record { node = node_of item; at = parser_state self.new }) result (begin_at (items_at n) (parser_state self.old)) }
         ensures shorter { OnOk result (length self.new.reader.rest ≤ length self.old.reader.rest) }
-        ensures ready { OnOk result (IsReady self.new) }
+        ensures ready { OnOk result (IsReadyParser self.new) }
     {
         let first = self.items(alloc)?;
         match first.ending {
@@ -168,10 +168,10 @@ impl<'a> Parser<'a> {
     /// `DO` up to its `LOOP` or `+LOOP`.
     #[cycle(items)]
     fn do_item(&mut self, alloc: Global) -> Result<Item, SourceError>
-        requires { IsReady self.old }
-        ensures gives { (n : ℕ) → length self.old.reader.rest < n → Gives (λ item. record { node = node_of item; at = place_of self.new }) result (do_at (items_at n) (place_of self.old)) }
+        requires { IsReadyParser self.old }
+        ensures gives { (n : ℕ) → length self.old.reader.rest < n → AnswersAs (λ item. record { node = node_of item; at = parser_state self.new }) result (do_at (items_at n) (parser_state self.old)) }
         ensures shorter { OnOk result (length self.new.reader.rest ≤ length self.old.reader.rest) }
-        ensures ready { OnOk result (IsReady self.new) }
+        ensures ready { OnOk result (IsReadyParser self.new) }
     {
         let body = self.items(alloc)?;
         match body.ending {
@@ -184,10 +184,10 @@ impl<'a> Parser<'a> {
     /// `?DO` up to its `LOOP` or `+LOOP`.
     #[cycle(items)]
     fn q_do_item(&mut self, alloc: Global) -> Result<Item, SourceError>
-        requires { IsReady self.old }
-        ensures gives { (n : ℕ) → length self.old.reader.rest < n → Gives (λ item. record { node = node_of item; at = place_of self.new }) result (q_do_at (items_at n) (place_of self.old)) }
+        requires { IsReadyParser self.old }
+        ensures gives { (n : ℕ) → length self.old.reader.rest < n → AnswersAs (λ item. record { node = node_of item; at = parser_state self.new }) result (q_do_at (items_at n) (parser_state self.old)) }
         ensures shorter { OnOk result (length self.new.reader.rest ≤ length self.old.reader.rest) }
-        ensures ready { OnOk result (IsReady self.new) }
+        ensures ready { OnOk result (IsReadyParser self.new) }
     {
         let body = self.items(alloc)?;
         match body.ending {
@@ -200,10 +200,10 @@ impl<'a> Parser<'a> {
     /// The body of an arm, up to its `ENDOF`.
     #[cycle(items)]
     fn arm_body(&mut self, alloc: Global) -> Result<Items, SourceError>
-        requires { IsReady self.old }
-        ensures gives { (n : ℕ) → length self.old.reader.rest < n → Gives (λ items. record { nodes = tree_of items; at = place_of self.new }) result (body_at (items_at n) (place_of self.old)) }
+        requires { IsReadyParser self.old }
+        ensures gives { (n : ℕ) → length self.old.reader.rest < n → AnswersAs (λ items. record { nodes = tree_of items; at = parser_state self.new }) result (body_at (items_at n) (parser_state self.old)) }
         ensures shorter { OnOk result (length self.new.reader.rest < length self.old.reader.rest) }
-        ensures ready { OnOk result (IsReady self.new) }
+        ensures ready { OnOk result (IsReadyParser self.new) }
     {
         let body = self.items(alloc)?;
         match body.ending {
@@ -215,10 +215,10 @@ impl<'a> Parser<'a> {
     /// `CASE` up to its `ENDCASE`.
     #[cycle(items)]
     fn case_item(&mut self, alloc: Global) -> Result<Item, SourceError>
-        requires { IsReady self.old }
-        ensures gives { (n m : ℕ) → length self.old.reader.rest < n → length self.old.reader.rest < m → Gives (λ item. record { node = node_of item; at = place_of self.new }) result (case_at (items_at n) m (place_of self.old)) }
+        requires { IsReadyParser self.old }
+        ensures gives { (n m : ℕ) → length self.old.reader.rest < n → length self.old.reader.rest < m → AnswersAs (λ item. record { node = node_of item; at = parser_state self.new }) result (case_at (items_at n) m (parser_state self.old)) }
         ensures shorter { OnOk result (length self.new.reader.rest ≤ length self.old.reader.rest) }
-        ensures ready { OnOk result (IsReady self.new) }
+        ensures ready { OnOk result (IsReadyParser self.new) }
     {
         let mut arms = Arms::new(alloc);
         'arms: loop {
@@ -245,10 +245,10 @@ impl<'a> Parser<'a> {
     /// The structure that a word opens.
     #[cycle(items)]
     fn structure(&mut self, alloc: Global, opening: Opening) -> Result<Item, SourceError>
-        requires { IsReady self.old }
-        ensures gives { (n m : ℕ) → length self.old.reader.rest < n → length self.old.reader.rest < m → Gives (λ item. record { node = node_of item; at = place_of self.new }) result (structure_at (items_at n) m opening (place_of self.old)) }
+        requires { IsReadyParser self.old }
+        ensures gives { (n m : ℕ) → length self.old.reader.rest < n → length self.old.reader.rest < m → AnswersAs (λ item. record { node = node_of item; at = parser_state self.new }) result (structure_at (items_at n) m opening (parser_state self.old)) }
         ensures shorter { OnOk result (length self.new.reader.rest ≤ length self.old.reader.rest) }
-        ensures ready { OnOk result (IsReady self.new) }
+        ensures ready { OnOk result (IsReadyParser self.new) }
     {
         match opening {
             Opening::If => self.if_item(alloc),
@@ -261,10 +261,10 @@ impl<'a> Parser<'a> {
 
     /// An item that is one token, with its weight.
     fn alone(&mut self, weight: u16, item: Item) -> Result<Item, SourceError>
-        requires { IsReady self.old }
-        ensures gives { Gives (λ item. record { node = node_of item; at = place_of self.new }) result (alone weight (node_of item) (place_of self.old)) }
+        requires { IsReadyParser self.old }
+        ensures gives { AnswersAs (λ item. record { node = node_of item; at = parser_state self.new }) result (alone weight (node_of item) (parser_state self.old)) }
         ensures same { length self.new.reader.rest ≡ length self.old.reader.rest }
-        ensures ready { OnOk result (IsReady self.new) }
+        ensures ready { OnOk result (IsReadyParser self.new) }
     {
         match self.weigh(weight) {
             Ok(()) => Ok(item),
@@ -275,10 +275,10 @@ impl<'a> Parser<'a> {
     /// The item that begins with the token just read.
     #[cycle(items)]
     fn item(&mut self, alloc: Global, sense: Sense) -> Result<Item, SourceError>
-        requires { IsReady self.old }
-        ensures gives { (n m : ℕ) → length self.old.reader.rest < n → length self.old.reader.rest < m → Gives (λ item. record { node = node_of item; at = place_of self.new }) result (item_at (items_at n) m (place_of self.old) sense) }
+        requires { IsReadyParser self.old }
+        ensures gives { (n m : ℕ) → length self.old.reader.rest < n → length self.old.reader.rest < m → AnswersAs (λ item. record { node = node_of item; at = parser_state self.new }) result (item_at (items_at n) m (parser_state self.old) sense) }
         ensures shorter { OnOk result (length self.new.reader.rest ≤ length self.old.reader.rest) }
-        ensures ready { OnOk result (IsReady self.new) }
+        ensures ready { OnOk result (IsReadyParser self.new) }
     {
         match sense {
             Sense::Number(cell) => self.alone(2, Item::Literal(cell)),
@@ -309,10 +309,10 @@ impl<'a> Parser<'a> {
     /// Items, up to the word that ends them.
     #[cycle(items)]
     pub(crate) fn items(&mut self, alloc: Global) -> Result<Ended, SourceError>
-        requires { IsReady self.old }
-        ensures gives { (n : ℕ) → length self.old.reader.rest < n → Gives (λ body. record { nodes = tree_of body.items; ending = body.ending; at = place_of self.new }) result (items_at n (place_of self.old)) }
+        requires { IsReadyParser self.old }
+        ensures gives { (n : ℕ) → length self.old.reader.rest < n → AnswersAs (λ body. record { nodes = tree_of body.items; ending = body.ending; at = parser_state self.new }) result (items_at n (parser_state self.old)) }
         ensures shorter { OnOk result (length self.new.reader.rest < length self.old.reader.rest) }
-        ensures ready { OnOk result (IsReady self.new) }
+        ensures ready { OnOk result (IsReadyParser self.new) }
     {
         let mut done = Items::new(alloc);
         'tokens: loop {
@@ -342,10 +342,10 @@ impl<'a> Parser<'a> {
 
     /// What stands outside definitions: true for a `:`, and false for the end of the text.
     pub(crate) fn outside(&mut self) -> Result<bool, SourceError>
-        requires { IsReady self.old }
-        ensures gives { Gives (λ begins. record { begins = begins; at = place_of self.new }) result (outside_at (place_of self.old)) }
+        requires { IsReadyParser self.old }
+        ensures gives { AnswersAs (λ begins. record { begins = begins; at = parser_state self.new }) result (outside_at (parser_state self.old)) }
         ensures shorter { IfOk result (λ begins. begins ≡ true → length self.new.reader.rest < length self.old.reader.rest) }
-        ensures ready { OnOk result (IsReady self.new) }
+        ensures ready { OnOk result (IsReadyParser self.new) }
         ensures kept { (self.new.dictionary ≡ self.old.dictionary) × (self.new.definitions ≡ self.old.definitions) }
     {
         match self.reader.next() {
@@ -363,12 +363,12 @@ impl<'a> Parser<'a> {
 
     /// The name of a definition, behind its `:`.
     pub(crate) fn name(&mut self) -> Result<&'a str, SourceError>
-        requires { IsReady self.old }
-        ensures gives { Gives (λ name. record { name = name.now; at = place_of self.new }) result (name_at (place_of self.old)) }
-        ensures form { IfOk result (λ name. IsToken name.now) }
+        requires { IsReadyParser self.old }
+        ensures gives { AnswersAs (λ name. record { name = name.now; at = parser_state self.new }) result (name_at (parser_state self.old)) }
+        ensures form { IfOk result (λ name. IsName name.now) }
         ensures room { OnOk result (length self.new.dictionary.pairs < 512) }
         ensures shorter { OnOk result (length self.new.reader.rest < length self.old.reader.rest) }
-        ensures ready { OnOk result (IsReady self.new) }
+        ensures ready { OnOk result (IsReadyParser self.new) }
         ensures kept { (self.new.dictionary ≡ self.old.dictionary) × (self.new.definitions ≡ self.old.definitions) }
     {
         match self.reader.name() {

@@ -1,6 +1,6 @@
 // Why a source is refused, and where.
 ghost use Rattle.std.specs.Prelude.{◌≡◌};
-ghost use Rattle.control_flow.specs.Outcome.{source_cause};
+ghost use Rattle.control_flow.specs.ParseResult.{source_cause};
 
 use forth_reader::ReadCause;
 

@@ -2,10 +2,10 @@
 ghost use Rattle.std.specs.Prelude.{◌≡◌, ◌∷◌, [], ℕ, ◌+◌, ◌<◌, ◌≤◌, length, true, IfOk, IfErr, OnOk};
 ghost use Rattle.forth_program.specs.Form.{IsProgram};
 ghost use Rattle.forth_program.specs.ItemTrees.{tree_of};
-ghost use Rattle.forth_reader.specs.ReaderState.{IsToken};
-ghost use Rattle.control_flow.specs.Outcome.{Each};
-ghost use Rattle.control_flow.specs.SourceText.{fixed_space, started, with_definition, definition_at, program_of, program_of_text};
-ghost use Rattle.control_flow.specs.Answers.{place_of, source_of, IsReady, IsCounted, Gives};
+ghost use Rattle.forth_reader.specs.Name.{IsName};
+ghost use Rattle.control_flow.specs.ParseResult.{Each};
+ghost use Rattle.control_flow.specs.SourceText.{fixed_space, source_start, with_definition, definition_at, program_of_source, program_of_text};
+ghost use Rattle.control_flow.specs.Answers.{parser_state, source_of, IsReadyParser, IsCounted, AnswersAs};
 
 use crate::nest::{Ending, Nest};
 use crate::parser::Parser;
@@ -38,8 +38,8 @@ impl<'a> ReadSource<'a> {
     /// A source at its start.
     fn new(alloc: Global, bytes: &'a [u8]) -> Result<ReadSource<'a>, AllocError>
         requires { length bytes.now < 4294967295 }
-        ensures start { IfOk result (λ source. source_of source ≡ started bytes.now) }
-        ensures ready { IfOk result (λ source. IsReady source.parser) }
+        ensures start { IfOk result (λ source. source_of source ≡ source_start bytes.now) }
+        ensures ready { IfOk result (λ source. IsReadyParser source.parser) }
         ensures counted { IfOk result (λ source. IsCounted source) }
     {
         let dictionary = Dictionary::new(alloc)?;
@@ -58,13 +58,13 @@ impl<'a> ReadSource<'a> {
 
     /// A definition that was read stands behind the others, and its name is found from here on.
     fn define(&mut self, name: &str, items: Items) -> Result<(), SourceError>
-        requires form { IsToken name.now }
-        requires ready { IsReady self.old.parser }
+        requires form { IsName name.now }
+        requires ready { IsReadyParser self.old.parser }
         requires counted { IsCounted self.old }
-        ensures done { OnOk result (source_of self.new ≡ with_definition (source_of self.old) name.now (tree_of items) (place_of self.old.parser)) }
+        ensures done { OnOk result (source_of self.new ≡ with_definition (source_of self.old) name.now (tree_of items) (parser_state self.old.parser)) }
         ensures memory { IfErr result (λ error. error ≡ SourceError.OutOfMemory) }
         ensures same { length self.new.parser.reader.rest ≡ length self.old.parser.reader.rest }
-        ensures ready { OnOk result (IsReady self.new.parser) }
+        ensures ready { OnOk result (IsReadyParser self.new.parser) }
         ensures counted { OnOk result (IsCounted self.new) }
         ensures longer { OnOk result (length self.new.bodies.items ≡ length self.old.bodies.items + 1) }
     {
@@ -91,11 +91,11 @@ impl<'a> ReadSource<'a> {
 
     /// A definition behind its `:`.
     fn definition(&mut self, alloc: Global) -> Result<(), SourceError>
-        requires ready { IsReady self.old.parser }
+        requires ready { IsReadyParser self.old.parser }
         requires counted { IsCounted self.old }
-        ensures gives { (n : ℕ) → length self.old.parser.reader.rest < n → Gives (λ _. source_of self.new) result (definition_at n (source_of self.old) (place_of self.old.parser)) }
+        ensures gives { (n : ℕ) → length self.old.parser.reader.rest < n → AnswersAs (λ _. source_of self.new) result (definition_at n (source_of self.old) (parser_state self.old.parser)) }
         ensures shorter { OnOk result (length self.new.parser.reader.rest ≤ length self.old.parser.reader.rest) }
-        ensures ready { OnOk result (IsReady self.new.parser) }
+        ensures ready { OnOk result (IsReadyParser self.new.parser) }
         ensures counted { OnOk result (IsCounted self.new) }
         ensures longer { OnOk result (length self.new.bodies.items ≡ length self.old.bodies.items + 1) }
     {
@@ -110,8 +110,8 @@ impl<'a> ReadSource<'a> {
     /// The program, at the end of the text.
     fn program(self, alloc: Global) -> Result<Program, SourceError>
         requires counted { IsCounted self }
-        requires form { Each IsProgram (program_of (source_of self) (place_of self.parser)) }
-        ensures { Gives (λ program. program) result (program_of (source_of self.entry) (place_of self.entry.parser)) }
+        requires form { Each IsProgram (program_of_source (source_of self) (parser_state self.parser)) }
+        ensures { AnswersAs (λ program. program) result (program_of_source (source_of self.entry) (parser_state self.entry.parser)) }
     {
         let ReadSource {
             mut parser,
@@ -150,7 +150,7 @@ impl<'a> ReadSource<'a> {
 /// end of the text has the number of all tokens and one more.
 pub fn read_program(alloc: Global, bytes: &[u8]) -> Result<Program, SourceError>
     requires { length bytes.now < 4294967295 }
-    ensures { Gives (λ program. program) result (program_of_text bytes.now) }
+    ensures { AnswersAs (λ program. program) result (program_of_text bytes.now) }
 {
     let mut source = match ReadSource::new(alloc, bytes) {
         Ok(source) => source,

@@ -14,7 +14,7 @@ use Rattle.depth_certifier.specs.declared.facts.Facts.{Facts}
 use Rattle.depth_certifier.specs.declared.effect.Effect.{Effect}
 use Rattle.depth_certifier.specs.declared.effect.CertCause.{CertCause}
 use Rattle.depth_certifier.specs.Effects.{Known, Return, idle}
-use Rattle.depth_certifier.specs.Certificate.{no_interval, Limits, limits_of, ExitKeeps, SharedInterval, Cert, known_of}
+use Rattle.depth_certifier.specs.Certificate.{no_interval, Limits, definition_limits, ExitKeeps, SharedInterval, Cert, known_of}
 use Rattle.depth_certifier.specs.Views.{limits_of as limits_of_bounds}
 use Rattle.depth_certifier.specs.Walk.{Walk, Walked, then_do, ends, body_walk, made}
 use Rattle.depth_certifier.specs.Walks.{walk_of, known_by, given_by, items_step}
@@ -22,8 +22,8 @@ use Rattle.depth_certifier.specs.Notes.{heads_of, walk_in}
 use Rattle.depth_certifier.specs.declared.walker.Walker.{Walker}
 use Rattle.depth_certifier.specs.Rounds.{token_effect, ProperToken}
 use Rattle.depth_certifier.specs.Checking.{effect_in, effect_keeps, interval_keeps, is_ordered, walked_and, bodies_check, is_valid}
-use Rattle.depth_certifier.specs.Bodies.{begun, body_and, BodyHolds}
-use Rattle.depth_certifier.proofs.Checking.{keeps_true, true_ordered, walked_ok}
+use Rattle.depth_certifier.specs.Bodies.{walk_start, body_and, BodyHolds}
+use Rattle.depth_certifier.proofs.CertificateCheck.{keeps_true, true_ordered, walked_ok}
 
 and_false : (b : Bool) → (b && false) ≡ false
 and_false true = refl
@@ -58,22 +58,22 @@ module _ (p : SourceProgram) (known : Known) (heads : List (ℤ × ℤ)) where
   uneven [] (e ∷ es) d noted other = refl
   uneven (body ∷ bodies) [] d noted other = refl
   uneven (body ∷ bodies) (e ∷ es) d noted other =
-      ap (λ b. effect_keeps (limits_of p d) e && b) (walked_false (body_walk (limits_of p d) known (Some heads) body noted) (λ w. effect_in (made w) e && bodies_check p known heads bodies es (suc d) w.heads)
-      (λ w. ap (λ b. effect_in (made w) e && b) (uneven bodies es (suc d) w.heads (λ same. other (ap suc same))) ∙ and_false (effect_in (made w) e))) ∙ and_false (effect_keeps (limits_of p d) e)
+      ap (λ b. effect_keeps (definition_limits p d) e && b) (walked_false (body_walk (definition_limits p d) known (Some heads) body noted) (λ w. effect_in (made w) e && bodies_check p known heads bodies es (suc d) w.heads)
+      (λ w. ap (λ b. effect_in (made w) e && b) (uneven bodies es (suc d) w.heads (λ same. other (ap suc same))) ∙ and_false (effect_in (made w) e))) ∙ and_false (effect_keeps (definition_limits p d) e)
 
   -- the check of the rest gives the whole
   abbrev pub Left : List Nodes → List Effect → Bool → ℕ → ℕ → Type 0
   Left bodies es whole d count = bodies_check p known heads (drop d bodies) (drop d es) d (replicate count no_interval) ≡ whole
 
   one_left : (bodies : List Nodes) (es : List Effect) (whole : Bool) (d count : ℕ) → d < length bodies → d < length es → Left bodies es whole d count →
-      body_and (effect_keeps (limits_of p d) (slice_index_or es d idle)) (body_walk (limits_of p d) known (Some heads) (slice_index_or bodies d Empty) (replicate count no_interval)) (slice_index_or es d idle)
+      body_and (effect_keeps (definition_limits p d) (slice_index_or es d idle)) (body_walk (definition_limits p d) known (Some heads) (slice_index_or bodies d Empty) (replicate count no_interval)) (slice_index_or es d idle)
       (λ noted. bodies_check p known heads (drop (d + 1) bodies) (drop (d + 1) es) (suc d) noted) ≡ whole
   one_left bodies es whole d count less few before =
       sym (ap (λ bs. bodies_check p known heads bs (drop d es) d (replicate count no_interval)) (drop_more bodies d Empty less)
       ∙ ap (λ xs. bodies_check p known heads (slice_index_or bodies d Empty ∷ drop (d + 1) bodies) xs d (replicate count no_interval)) (drop_more es d idle few)) ∙ before
 
   body_left : (bodies : List Nodes) (es : List Effect) (whole : Bool) (d count more : ℕ) → d < length bodies → d < length es →
-      BodyHolds (Some more) (effect_keeps (limits_of p d) (slice_index_or es d idle)) (body_walk (limits_of p d) known (Some heads) (slice_index_or bodies d Empty) (replicate count no_interval)) (slice_index_or es d idle) →
+      BodyHolds (Some more) (effect_keeps (definition_limits p d) (slice_index_or es d idle)) (body_walk (definition_limits p d) known (Some heads) (slice_index_or bodies d Empty) (replicate count no_interval)) (slice_index_or es d idle) →
       Left bodies es whole d count → Left bodies es whole (d + 1) more
   body_left bodies es whole d count more less few holds before =
       let next : d + 1 ≡ suc d = omega arith in
@@ -81,7 +81,7 @@ module _ (p : SourceProgram) (known : Known) (heads : List (ℤ × ℤ)) where
       ∙ sym (holds (λ noted. bodies_check p known heads (drop (d + 1) bodies) (drop (d + 1) es) (suc d) noted)) ∙ one_left bodies es whole d count less few before
 
   body_fails : (bodies : List Nodes) (es : List Effect) (whole : Bool) (d count : ℕ) → d < length bodies → d < length es →
-      BodyHolds None (effect_keeps (limits_of p d) (slice_index_or es d idle)) (body_walk (limits_of p d) known (Some heads) (slice_index_or bodies d Empty) (replicate count no_interval)) (slice_index_or es d idle) →
+      BodyHolds None (effect_keeps (definition_limits p d) (slice_index_or es d idle)) (body_walk (definition_limits p d) known (Some heads) (slice_index_or bodies d Empty) (replicate count no_interval)) (slice_index_or es d idle) →
       Left bodies es whole d count → false ≡ whole
   body_fails bodies es whole d count less few holds before =
       sym (holds (λ noted. bodies_check p known heads (drop (d + 1) bodies) (drop (d + 1) es) (suc d) noted)) ∙ one_left bodies es whole d count less few before
@@ -92,7 +92,7 @@ module _ (p : SourceProgram) (known : Known) (heads : List (ℤ × ℤ)) where
   ordered_bodies [] (e ∷ es) d noted h = cc (h)
   ordered_bodies (body ∷ bodies) [] d noted h = refl
   ordered_bodies (body ∷ bodies) (e ∷ es) d noted h =
-      let lim = limits_of p d in
+      let lim = definition_limits p d in
       let a = and_parts (effect_keeps lim e) (walked_and (body_walk lim known (Some heads) body noted) (λ w. effect_in (made w) e && bodies_check p known heads bodies es (suc d) w.heads)) h in
       let b = walked_ok (body_walk lim known (Some heads) body noted) (λ w. effect_in (made w) e && bodies_check p known heads bodies es (suc d) w.heads) a.1 in
       let c = and_parts (effect_in (made b.0) e) (bodies_check p known heads bodies es (suc d) b.0.heads) b.2 in
@@ -106,9 +106,9 @@ module _ (p : SourceProgram) (z : Cert) where
 
   -- as the code has it
   as_is : (n : Option ℕ) (d count : ℕ) (lim : Limits) (ds : List Effect) (shared : Effect) (hs : List (ℤ × ℤ)) (body : Nodes) (e : Effect) →
-      lim ≡ limits_of p d → ds ≡ z.effects → shared ≡ z.shared → hs ≡ z.heads → body ≡ body_of p d → e ≡ slice_index_or ds d idle →
+      lim ≡ definition_limits p d → ds ≡ z.effects → shared ≡ z.shared → hs ≡ z.heads → body ≡ body_of p d → e ≡ slice_index_or ds d idle →
       BodyHolds n (effect_keeps lim e) (body_walk lim (record { definitions = ds; shared = shared }) (Some hs) body (replicate count no_interval)) e →
-      BodyHolds n (effect_keeps (limits_of p d) (slice_index_or z.effects d idle)) (body_walk (limits_of p d) (known_of z) (Some z.heads) (body_of p d) (replicate count no_interval)) (slice_index_or z.effects d idle)
+      BodyHolds n (effect_keeps (definition_limits p d) (slice_index_or z.effects d idle)) (body_walk (definition_limits p d) (known_of z) (Some z.heads) (body_of p d) (replicate count no_interval)) (slice_index_or z.effects d idle)
   as_is n d count lim ds shared hs body e is_lim is_ds is_shared is_hs is_body is_e holds =
       subst (λ x. BodyHolds n (effect_keeps x (slice_index_or z.effects d idle)) (body_walk x (known_of z) (Some z.heads) (body_of p d) (replicate count no_interval)) (slice_index_or z.effects d idle)) is_lim
       (subst (λ x. BodyHolds n (effect_keeps lim (slice_index_or z.effects d idle)) (body_walk lim (record { definitions = x; shared = z.shared }) (Some z.heads) (body_of p d) (replicate count no_interval)) (slice_index_or z.effects d idle)) is_ds
@@ -117,7 +117,7 @@ module _ (p : SourceProgram) (z : Cert) where
       (subst (λ x. BodyHolds n (effect_keeps lim (slice_index_or z.effects d idle)) (body_walk lim (record { definitions = ds; shared = shared }) (Some hs) x (replicate count no_interval)) (slice_index_or z.effects d idle)) is_body
       (subst (λ x. BodyHolds n (effect_keeps lim x) (body_walk lim (record { definitions = ds; shared = shared }) (Some hs) body (replicate count no_interval)) x) (is_e ∙ ap (λ xs. slice_index_or xs d idle) is_ds) holds)))))
 
-  module _ (d count : ℕ) (lim : Limits) (ds : List Effect) (shared : Effect) (hs : List (ℤ × ℤ)) (body : Nodes) (e : Effect) (is_lim : lim ≡ limits_of p d) (is_ds : ds ≡ z.effects) (is_shared : shared ≡ z.shared) (is_hs : hs ≡ z.heads)
+  module _ (d count : ℕ) (lim : Limits) (ds : List Effect) (shared : Effect) (hs : List (ℤ × ℤ)) (body : Nodes) (e : Effect) (is_lim : lim ≡ definition_limits p d) (is_ds : ds ≡ z.effects) (is_shared : shared ≡ z.shared) (is_hs : hs ≡ z.heads)
       (is_body : body ≡ body_of p d) (is_e : e ≡ slice_index_or ds d idle) (less : d < length p.bodies) (few : d < length ds) (before : Whole d count) where
     pub one_holds : (more : ℕ) → BodyHolds (Some more) (effect_keeps lim e) (body_walk lim (record { definitions = ds; shared = shared }) (Some hs) body (replicate count no_interval)) e → Whole (d + 1) more
     one_holds more holds =
@@ -144,15 +144,15 @@ module _ (p : SourceProgram) (z : Cert) where
 -- ---- a body
 
 module _ (facts : Facts) (effects : List Effect) (heads notes : List (ℤ × ℤ)) (body : Nodes) (count : ℕ) where
-  starts : (w : Walker) → walk_of w ≡ begun count → w.count ≡ count → walk_in facts.finding notes w ≡ record (begun count) { heads = heads_of facts.finding notes count }
-  starts w begins same = ap {A = Walk} (λ x. record x { heads = heads_of facts.finding notes w.count }) begins ∙ ap (λ n. record (begun count) { heads = heads_of facts.finding notes n }) same
+  starts : (w : Walker) → walk_of w ≡ walk_start count → w.count ≡ count → walk_in facts.finding notes w ≡ record (walk_start count) { heads = heads_of facts.finding notes count }
+  starts w begins same = ap {A = Walk} (λ x. record x { heads = heads_of facts.finding notes w.count }) begins ∙ ap (λ n. record (walk_start count) { heads = heads_of facts.finding notes n }) same
 
-  pub walked : (w : Walker) (m : Walk) (r : Walked) → walk_of w ≡ begun count → w.count ≡ count → items_step facts effects heads None Return body (walk_in facts.finding notes w) ≡ Ok m → ends (limits_of_bounds facts.bounds) m ≡ r →
+  pub walked : (w : Walker) (m : Walk) (r : Walked) → walk_of w ≡ walk_start count → w.count ≡ count → items_step facts effects heads None Return body (walk_in facts.finding notes w) ≡ Ok m → ends (limits_of_bounds facts.bounds) m ≡ r →
       body_walk (limits_of_bounds facts.bounds) (known_by facts effects) (given_by facts.finding heads) body (heads_of facts.finding notes count) ≡ r
   walked w m r begins same step last =
       ap (λ r. then_do r (ends (limits_of_bounds facts.bounds))) (ap (items_step facts effects heads None Return body) (sym (starts w begins same)) ∙ step) ∙ last
 
-  pub refused : (w : Walker) (reason : CertCause) → walk_of w ≡ begun count → w.count ≡ count → items_step facts effects heads None Return body (walk_in facts.finding notes w) ≡ Err reason →
+  pub refused : (w : Walker) (reason : CertCause) → walk_of w ≡ walk_start count → w.count ≡ count → items_step facts effects heads None Return body (walk_in facts.finding notes w) ≡ Err reason →
       body_walk (limits_of_bounds facts.bounds) (known_by facts effects) (given_by facts.finding heads) body (heads_of facts.finding notes count) ≡ Err reason
   refused w reason begins same step =
       ap (λ r. then_do r (ends (limits_of_bounds facts.bounds))) (ap (items_step facts effects heads None Return body) (sym (starts w begins same)) ∙ step)

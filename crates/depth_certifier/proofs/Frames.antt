@@ -11,7 +11,7 @@ use Rattle.depth_certifier.specs.Effects.{Known}
 use Rattle.depth_certifier.specs.Certificate.{after, Allows, Leads}
 use Rattle.forth_program.specs.Run.{lacks}
 use Rattle.forth_program.specs.Heights.{entries_height, callers_height, return_height, peak_of, back_of, execute_back, DepthFits}
-use Rattle.depth_certifier.proofs.Standing.{shape_of, shape_size, Inside, Stood, stood_more, LeavesWithin, stood_after}
+use Rattle.depth_certifier.proofs.SourcePlaces.{shape_of, shape_size, Inside, Stood, stood_more, LeavesWithin, stood_after}
 use Rattle.depth_certifier.proofs.Words.{Kept}
 use Rattle.depth_certifier.proofs.Work.{WorkLeads, WorkFrom}
 
@@ -52,7 +52,7 @@ module _ (known : Known) (heads : List (ℤ × ℤ)) (main : Effect) (most retur
   CallersFit x base [] = (base ≡ 0) × (x ≡ main)
   CallersFit x base (frame ∷ callers) = (e : Effect) × (base' : ℕ) × Waiting x base e base' frame callers × CallersFit e base' callers
 
-  pub record Holds (s : State) : Type 0 where
+  pub record KeepsFrames (s : State) : Type 0 where
     pub effect : Effect
     pub base : ℕ
     pub place : Place
@@ -66,14 +66,14 @@ module _ (known : Known) (heads : List (ℤ × ℤ)) (main : Effect) (most retur
 
   -- a step leads on so, or ends the run for another cause
   abbrev pub Onward : Outcome → Type 0
-  Onward (Goes s) = Holds s
+  Onward (Goes s) = KeepsFrames s
   Onward (Ends end world) = lacks (Ends end world) ≡ false
 
   -- ---- one frame
 
   module _ (e : Effect) (base : ℕ) (callers : List Frame) (bounds : Bounds most return_most e base (callers_height callers)) (below : CallersFit e base callers) where
     pub holds : (work : List Work) (entries : List Entry) (c : List ℕ) (world : World) (s l : Place) → WorkFrom known heads e work s l → Stood base s c entries → length c ≤ most → entries_height entries ≤ e.back →
-        Holds (record { work = work; entries = entries; callers = callers; cells = c; world = world })
+        KeepsFrames (record { work = work; entries = entries; callers = callers; cells = c; world = world })
     holds work entries c world s l w st few room =
         record { effect = e; base = base; place = w.0; loop_end = l; leads = w.2; stood = stood_more base s w.0 c entries w.1 st; bounds = bounds; callers = below; few = few; room = room }
 
@@ -108,7 +108,7 @@ module _ (known : Known) (heads : List (ℤ × ℤ)) (main : Effect) (most retur
         }
 
   -- a word on cells and the world
-  pub kept_onward : (exit : Option (ℤ × ℤ)) (n : ℕ) (r : Reply (List ℕ)) (s : State) → Kept exit n r → ((c : List ℕ) (w : World) → LeavesWithin exit n (length c) → Holds (record s { cells = c; world = w })) → Onward (on_cells r s)
+  pub kept_onward : (exit : Option (ℤ × ℤ)) (n : ℕ) (r : Reply (List ℕ)) (s : State) → Kept exit n r → ((c : List ℕ) (w : World) → LeavesWithin exit n (length c) → KeepsFrames (record s { cells = c; world = w })) → Onward (on_cells r s)
   kept_onward exit n (Gives c w) s k next = next c w k
   kept_onward exit n (Stops end w) s k next = k
 

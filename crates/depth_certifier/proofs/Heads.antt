@@ -15,7 +15,7 @@ use Rattle.depth_certifier.specs.Place.{At}
 use Rattle.depth_certifier.specs.Entries.{entries_of}
 use Rattle.depth_certifier.specs.Certificate.{no_interval}
 use Rattle.depth_certifier.specs.Walk.{checked, noting, enter_given, enters}
-use Rattle.depth_certifier.specs.Views.{stand_of, place_of, HeadKeeps}
+use Rattle.depth_certifier.specs.Views.{stand_of, place_of_reach, HeadKeeps}
 use Rattle.depth_certifier.specs.Walks.{walk_of, StepOf}
 
 pub entered : (w : Walker) (spot head : Spot) (low high : ℤ) (test : Bool) → test ≡ true → head.low ≡ low → head.high ≡ high → head.entries ≡ spot.entries →
@@ -27,12 +27,12 @@ entered w spot head low high true t a b e =
     cc (a, b, shape, more)
 
 at_head : (heads : List (ℤ × ℤ)) (n m : ℕ) (spot : Spot) (place : Reach) (w : Walker) → m ≡ n → n < length heads → place ≡ reach.At spot →
-    checked (nat_lt m (length heads)) cause.Data (enter_given (slice_index_or heads m no_interval) (place_of place) (walk_of w)) ≡ enter_given (slice_index_or heads n no_interval) (At (stand_of spot)) (walk_of w)
+    checked (nat_lt m (length heads)) cause.Data (enter_given (slice_index_or heads m no_interval) (place_of_reach place) (walk_of w)) ≡ enter_given (slice_index_or heads n no_interval) (At (stand_of spot)) (walk_of w)
 at_head heads n m spot place w same few is =
     let test : nat_lt m (length heads) ≡ true = grind (arith, same, few) in
-    ap (λ b. checked b cause.Data (enter_given (slice_index_or heads m no_interval) (place_of place) (walk_of w))) test
-    ∙ ap (λ k. enter_given (slice_index_or heads k no_interval) (place_of place) (walk_of w)) same
-    ∙ ap (λ r. enter_given (slice_index_or heads n no_interval) (place_of r) (walk_of w)) is
+    ap (λ b. checked b cause.Data (enter_given (slice_index_or heads m no_interval) (place_of_reach place) (walk_of w))) test
+    ∙ ap (λ k. enter_given (slice_index_or heads k no_interval) (place_of_reach place) (walk_of w)) same
+    ∙ ap (λ r. enter_given (slice_index_or heads n no_interval) (place_of_reach r) (walk_of w)) is
 
 -- the step at a place that is reached
 pub enters_at : (result : Result (Unit {0}) CertCause) (heads : List (ℤ × ℤ)) (w new : Walker) (spot : Spot) → w.count < length heads → w.place ≡ reach.At spot →

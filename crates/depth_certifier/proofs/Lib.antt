@@ -1,4 +1,4 @@
-pub mod Standing
+pub mod SourcePlaces
 pub mod Words
 pub mod Work
 pub mod Frames
@@ -7,16 +7,16 @@ pub mod Structures
 pub mod Runs
 mod Samples
 pub mod Tests
-pub mod Passing
-pub mod Finding
-pub mod FindingItems
-pub mod Holding
+pub mod UnreachablePlaces
+pub mod StepsBelowCertificate
+pub mod ItemsBelowCertificate
+pub mod WalkFits
 pub mod Valid
-pub mod Keeping
-pub mod Rounding
-pub mod Falling
+pub mod WalkLimits
+pub mod RoundBounds
+pub mod RoundTermination
 pub mod RoundLaws
-pub mod Checking
+pub mod CertificateCheck
 pub mod Slots
 pub mod OneEffect
 pub mod Heads

@@ -12,7 +12,7 @@ use Rattle.depth_certifier.specs.declared.effect.Effect.{Effect}
 use Rattle.depth_certifier.specs.declared.effect.CertCause.{CertCause}
 use Rattle.depth_certifier.specs.declared.walker.Walker.{Walker}
 use Rattle.depth_certifier.specs.Effects.{Known, Return}
-use Rattle.depth_certifier.specs.Certificate.{loops, Limits, limits_of, ExitKeeps, Keeps, BodiesFit}
+use Rattle.depth_certifier.specs.Certificate.{loops, Limits, definition_limits, ExitKeeps, Keeps, BodiesFit}
 use Rattle.depth_certifier.specs.Walk.{Walk, walk, start, ends, body_walk, made}
 use Rattle.depth_certifier.specs.Rounds.{token_effect, joined_effect, shared_of, Refusal, Bodies, on_body, with_effect, bodies_round}
 use Rattle.depth_certifier.specs.Walks.{walk_of, HeadsKeep}
@@ -20,8 +20,8 @@ use Rattle.depth_certifier.specs.Notes.{walk_in}
 use Rattle.depth_certifier.specs.Counting.{all_loops}
 use Rattle.depth_certifier.specs.Settling.{widest, AllKeep, MadeOf}
 use Rattle.depth_certifier.proofs.Tests.{then_ok}
-use Rattle.depth_certifier.proofs.Keeping.{Intervals, Kept, ends_kept, walk_kept}
-use Rattle.depth_certifier.proofs.Rounding.{bodies_follow, no_heads_fine}
+use Rattle.depth_certifier.proofs.WalkLimits.{Intervals, Kept, ends_kept, walk_kept}
+use Rattle.depth_certifier.proofs.RoundBounds.{bodies_follow, no_heads_fine}
 
 -- ---- the shared effect, from the last token on
 
@@ -59,7 +59,7 @@ exit_more : (top : ℕ) (x : Option (ℤ × ℤ)) → top ≤ 33 → ExitKeeps t
 exit_more top None t h = tt
 exit_more top (Some x) t h = (h.0, h.1, omega (arith, ints, h.2, t))
 
-pub keep_widest : (p : SourceProgram) (d : ℕ) (e : Effect) → Keeps (limits_of p d) e → Keeps widest e
+pub keep_widest : (p : SourceProgram) (d : ℕ) (e : Effect) → Keeps (definition_limits p d) e → Keeps widest e
 keep_widest p d e k = of (nat_eq d p.main_body) (uses_depth p) k
   where
     of : (main depth : Bool) → Keeps (if main then record { need = 0; peak = if depth then 32 else 33; back = 31; top = 31 } else widest) e → Keeps widest e
@@ -81,7 +81,7 @@ all_keep p known hs (body ∷ bodies) (e ∷ es) d k v (suc n) = all_keep p know
 
 module _ (p : SourceProgram) (known : Known) (intervals : Intervals known) where
   -- what the walk of the code has made keeps the limits
-  pub walked_keeps : (lim : Limits) (d : ℕ) (body : Nodes) (heads notes : List (ℤ × ℤ)) (w : Walker) → lim ≡ limits_of p d → HeadsKeep heads → body_walk lim known None body heads ≡ Ok (walk_in true notes w) → Keeps wide (made (walk_of w))
+  pub walked_keeps : (lim : Limits) (d : ℕ) (body : Nodes) (heads notes : List (ℤ × ℤ)) (w : Walker) → lim ≡ definition_limits p d → HeadsKeep heads → body_walk lim known None body heads ≡ Ok (walk_in true notes w) → Keeps wide (made (walk_of w))
   walked_keeps lim d body heads notes w is_lim fine is =
       let k = body_kept lim known intervals body heads (walk_in true notes w) fine is in
       keep_wide (made (walk_of w)) (keep_widest p d (made (walk_of w)) (subst (λ l. Keeps l (made (walk_of w))) is_lim k.keeps))
@@ -106,7 +106,7 @@ prepend_err (e ∷ es) r = ap (with_effect e) (prepend_err es r)
 
 module _ (p : SourceProgram) (known : Known) where
   abbrev pub rest : List Nodes → ℕ → List (ℤ × ℤ) → Result Bodies Refusal
-  rest bodies d heads = bodies_round (limits_of p) known bodies d heads
+  rest bodies d heads = bodies_round (definition_limits p) known bodies d heads
 
   -- the round over the definitions from d on, behind what is made, is the whole round
   pub record Made (d count : ℕ) (next : List Effect) (notes : List (ℤ × ℤ)) : Type 0 where
@@ -118,23 +118,23 @@ module _ (p : SourceProgram) (known : Known) where
   none_made next notes = record { made = refl; room = (let all : 0 + all_loops p.bodies ≡ all_loops p.bodies = omega arith in all); heads = no_heads_fine p }
 
   here : (d count : ℕ) (next : List Effect) (notes : List (ℤ × ℤ)) → d < length p.bodies → Made d count next notes →
-      prepend (take d next) (on_body d (body_walk (limits_of p d) known None (body_of p d) (take count notes)) (λ w. with_effect (made w) (rest (drop (d + 1) p.bodies) (suc d) w.heads))) ≡ rest p.bodies 0 []
+      prepend (take d next) (on_body d (body_walk (definition_limits p d) known None (body_of p d) (take count notes)) (λ w. with_effect (made w) (rest (drop (d + 1) p.bodies) (suc d) w.heads))) ≡ rest p.bodies 0 []
   here d count next notes less m = ap (λ bs. prepend (take d next) (rest bs d (take count notes))) (sym (drop_more p.bodies d Empty less)) ∙ m.made
 
   pub has_room : (d count : ℕ) (next : List Effect) (notes : List (ℤ × ℤ)) → d < length p.bodies → Made d count next notes → count + loops (body_of p d) + all_loops (drop (d + 1) p.bodies) ≡ all_loops p.bodies
   has_room d count next notes less m = let more = ap all_loops (drop_more p.bodies d Empty less) in omega (arith, more, m.room)
 
-  pub one_refused : (d count : ℕ) (next : List Effect) (notes noted : List (ℤ × ℤ)) (cause : CertCause) → d < length p.bodies → MadeOf (Err cause) noted (body_walk (limits_of p d) known None (body_of p d) (take count notes)) → Made d count next notes →
+  pub one_refused : (d count : ℕ) (next : List Effect) (notes noted : List (ℤ × ℤ)) (cause : CertCause) → d < length p.bodies → MadeOf (Err cause) noted (body_walk (definition_limits p d) known None (body_of p d) (take count notes)) → Made d count next notes →
       rest p.bodies 0 [] ≡ Err (record { definition = d; reason = cause })
   one_refused d count next notes noted cause less is m =
       sym (here d count next notes less m) ∙ ap (λ r. prepend (take d next) (on_body d r (λ w. with_effect (made w) (rest (drop (d + 1) p.bodies) (suc d) w.heads)))) is ∙ prepend_err (take d next) (record { definition = d; reason = cause })
 
   pub one_made : Intervals known → (d count : ℕ) (next : List Effect) (notes noted : List (ℤ × ℤ)) (e : Effect) (more : ℕ) → d < length p.bodies → d < length next → more ≡ count + loops (body_of p d) →
-      MadeOf (Ok (e, more)) noted (body_walk (limits_of p d) known None (body_of p d) (take count notes)) → Made d count next notes → Made (d + 1) more (slice_set next d e) noted
+      MadeOf (Ok (e, more)) noted (body_walk (definition_limits p d) known None (body_of p d) (take count notes)) → Made d count next notes → Made (d + 1) more (slice_set next d e) noted
   one_made intervals d count next notes noted e more less few counted is m =
       let w = is.0 in
       let step : d + 1 ≡ suc d = omega arith in
-      let kept = body_kept (limits_of p d) known intervals (body_of p d) (take count notes) w m.heads is.1 in
+      let kept = body_kept (definition_limits p d) known intervals (body_of p d) (take count notes) w m.heads is.1 in
       let effects : take (d + 1) (slice_set next d e) ≡ take d next ++ made w ∷ [] = take_more_set next d e few ∙ ap (λ x. take d next ++ x ∷ []) is.2 in
       let later = rest (drop (d + 1) p.bodies) (suc d) w.heads in
       record {

@@ -2,7 +2,7 @@
 use Rattle.std.proofs.Common.{◌≡◌, ◌+◌, ◌<◌, OnOk, set, Bool, true, false, ◌&&◌, List, [], length, Option, Some, None, Result, Ok, Err, refl, sym, ap, ◌∙◌}
 use Rattle.std.specs.Prelude.{ℤ, nat_le}
 use Rattle.std.proofs.lemmas.List.{length-replicate, take_more_set}
-use Rattle.depth_certifier.specs.Views.{place_of}
+use Rattle.depth_certifier.specs.Views.{place_of_reach}
 use Rattle.word_table.specs.declared.word.Word.TheVariants as table
 use Rattle.depth_certifier.specs.declared.effect.Effect.{Effect}
 use Rattle.depth_certifier.specs.declared.effect.CertCause.{CertCause}
@@ -14,7 +14,7 @@ use Rattle.depth_certifier.specs.Certificate.{after, no_interval, Limits}
 use Rattle.depth_certifier.specs.Walk.{Walk, Walked, checked, in_limits, need_at, peak_at, back_at, take_with, take_at, takes, double_at, decide_at, decides, end_at, ends, join_at, joins, leave_at, leaving, back_to, returns_to, enters, enter_found, interval_of, noting}
 use Rattle.depth_certifier.specs.Walks.{walk_of, StepOf}
 use Rattle.depth_certifier.specs.Notes.{heads_of, walk_in}
-use Rattle.depth_certifier.proofs.Holding.{grows_length, entered}
+use Rattle.depth_certifier.proofs.WalkFits.{grows_length, entered}
 
 abbrev pub heads_set : List (ℤ × ℤ) → Walked → Walked
 heads_set hs (Ok w) = Ok (record w { heads = hs })
@@ -131,7 +131,7 @@ counted heads (Ok done) w u h =
 counted heads (Err reason) w u h = tt
 
 -- one head more is written
-pub one_noted : (notes : List (ℤ × ℤ)) (w u : Walker) (head : ℤ × ℤ) → w.count < length notes → u ≡ record w { count = w.count + 1 } → walk_in true (set notes w.count head) u ≡ noting head (place_of w.place) (walk_in true notes w)
+pub one_noted : (notes : List (ℤ × ℤ)) (w u : Walker) (head : ℤ × ℤ) → w.count < length notes → u ≡ record w { count = w.count + 1 } → walk_in true (set notes w.count head) u ≡ noting head (place_of_reach w.place) (walk_in true notes w)
 one_noted notes w u head less is =
     ap (walk_in true (set notes w.count head)) is ∙ ap (λ hs. record (walk_of w) { heads = hs }) (take_more_set notes w.count head less)
 

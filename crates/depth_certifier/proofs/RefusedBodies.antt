@@ -5,7 +5,7 @@ use Rattle.forth_program.specs.Tree.{Nodes}
 use Rattle.forth_program.specs.Program.{SourceProgram}
 use Rattle.depth_certifier.specs.declared.effect.Effect.{Effect}
 use Rattle.depth_certifier.specs.Effects.{Known}
-use Rattle.depth_certifier.specs.Certificate.{Limits, limits_of, Cert, known_of}
+use Rattle.depth_certifier.specs.Certificate.{Limits, definition_limits, Cert, known_of}
 use Rattle.depth_certifier.specs.Walk.{Walk, Walked, body_walk, made}
 use Rattle.depth_certifier.specs.Rounds.{Refusal, Bodies, on_body, with_effect, bodies_round, with_shared, next_round, after_rounds}
 
@@ -35,7 +35,7 @@ module _ (r : Refusal) where
 
   module _ (p : SourceProgram) where
     round_refused : (s : Result Cert Refusal) → (s ≡ Err r → r.definition < length p.bodies) → next_round p s ≡ Err r → r.definition < length p.bodies
-    round_refused (Ok z) before h = omega (arith, body_refused (limits_of p) (known_of z) p.bodies 0 [] (shared_refused p z.shared (bodies_round (limits_of p) (known_of z) p.bodies 0 []) h))
+    round_refused (Ok z) before h = omega (arith, body_refused (definition_limits p) (known_of z) p.bodies 0 [] (shared_refused p z.shared (bodies_round (definition_limits p) (known_of z) p.bodies 0 []) h))
     round_refused (Err s) before h = before h
 
     pub refused_body : (n : ℕ) → after_rounds p n ≡ Err r → r.definition < length p.bodies

@@ -8,8 +8,8 @@ use Rattle.depth_certifier.specs.declared.effect.Effect.{Effect}
 use Rattle.depth_certifier.specs.Effects.{Known}
 use Rattle.depth_certifier.specs.Certificate.{loops, ExitIn, EffectIn, no_interval, IsInterval, Cert, known_of, BodiesFit}
 use Rattle.depth_certifier.specs.Rounds.{Refusal, next_round, after_rounds, EachIn, HeadIn, RoundsEnd, RoundsFindTheLeast, RefusedHaveNone, OneRefusal, OneLeast}
-use Rattle.depth_certifier.proofs.Rounding.{refused, settled}
-use Rattle.depth_certifier.proofs.Falling.{judged}
+use Rattle.depth_certifier.proofs.RoundBounds.{refused, settled}
+use Rattle.depth_certifier.proofs.RoundTermination.{judged}
 
 pub rounds_end : RoundsEnd
 rounds_end p = judged p

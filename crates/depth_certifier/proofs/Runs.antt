@@ -7,16 +7,16 @@ use Rattle.std.proofs.lemmas.Bool.{eq-eqb}
 use Rattle.forth_program.specs.Tree.{Node, Nodes, Empty}
 use Rattle.forth_program.specs.State.{State, Outcome, Goes, Ends}
 use Rattle.forth_program.specs.Program.{SourceProgram, body_of, token_of, uses_depth}
-use Rattle.forth_program.specs.Step.{First, BodyEnd, IsLiteral, IsWord, IsCall, IsChild, IsText, IsIf, IsTrueEnd, IsUntil, IsWhile, IsRepeat, IsAgain, IsDo, IsQDo, IsTurn, IsOf, IsEndOf, IsEndCase, IsLeave, IsExit, first, act, step}
+use Rattle.forth_program.specs.Step.{First, BodyEnd, IsLiteral, IsWord, IsCall, IsChild, IsText, IsIf, IsTrueEnd, IsUntil, IsWhile, IsRepeat, IsAgain, IsDo, IsQDo, IsTurn, IsOf, IsEndOf, IsEndCase, IsLeave, IsExit, first_work, act, step}
 use Rattle.forth_program.specs.Run.{and_then, steps, first_state, source_run, lacks}
 use Rattle.depth_certifier.specs.declared.effect.Effect.{Effect}
 use Rattle.depth_certifier.specs.Place.{Place, Unreachable, At, entry, from_zero}
 use Rattle.depth_certifier.specs.Effects.{Known, idle, effect_of, Return}
-use Rattle.depth_certifier.specs.Certificate.{loops, BodyFits, TokenIn, Limits, limits_of, ExitKeeps, Keeps, Cert, known_of, BodiesFit, IsValid}
+use Rattle.depth_certifier.specs.Certificate.{loops, BodyFits, TokenIn, Limits, definition_limits, ExitKeeps, Keeps, Cert, known_of, BodiesFit, IsValid}
 use Rattle.depth_certifier.specs.Soundness.{main_effect, end_height, most_cells, most_return_cells, RunsWithin, CertifiedRunsFit}
-use Rattle.depth_certifier.proofs.Standing.{Stood, stood_more, below_same}
+use Rattle.depth_certifier.proofs.SourcePlaces.{Stood, stood_more, below_same}
 use Rattle.depth_certifier.proofs.Work.{FirstLeads, opens, enter}
-use Rattle.depth_certifier.proofs.Frames.{Holds, Onward, Moves}
+use Rattle.depth_certifier.proofs.Frames.{KeepsFrames, Onward, Moves}
 use Rattle.depth_certifier.proofs.Steps.{literal_moves, word_moves}
 use Rattle.depth_certifier.proofs.Structures.{if_moves, true_end_moves, until_moves, while_moves, repeat_moves, again_moves, do_moves, query_do_moves, turn_moves, of_moves, end_of_moves, end_case_moves, leave_moves, body_end_moves, exit_moves, text_moves, call_moves, child_moves}
 
@@ -24,7 +24,7 @@ module _ (p : SourceProgram) (known : Known) (heads : List (ℤ × ℤ)) (main :
     (tokens : (token : ℕ) (node : Node) → token_of p token ≡ Some node → TokenIn known node)
     (bodies : (d : ℕ) → (k : ℕ) × BodyFits known heads (effect_of known d) (body_of p d) k) (limits : (d : ℕ) → ((effect_of known d).need ≤ 33) × ((effect_of known d).peak ≤ 33)) where
   abbrev HoldsAt : State → Type 0
-  HoldsAt s = Holds known heads main most return_most s
+  HoldsAt s = KeepsFrames known heads main most return_most s
 
   first_moves : (s : State) (h : HoldsAt s) (f : First) (place l : Place) → FirstLeads known heads h.effect f place l → Stood h.base place s.cells s.entries → Moves known heads main most return_most p high f s (act p f s)
   first_moves s h BodyEnd place l f st = body_end_moves p known heads main most return_most high lower limit ends h.effect h.base s.callers h.bounds h.callers s.world s.work s.entries s.cells place f st h.few h.room
@@ -49,11 +49,11 @@ module _ (p : SourceProgram) (known : Known) (heads : List (ℤ × ℤ)) (main :
   first_moves s h (IsLeave work) place l f st = leave_moves p known heads main most return_most high lower limit ends h.effect h.base s.callers h.bounds h.callers s.world work s.work s.entries s.cells place l f st h.few h.room
 
   -- a step from where the certificate holds fits the bounds, and leads to where it holds
-  pub step_moves : (s : State) → HoldsAt s → Moves known heads main most return_most p high (first s.work) s (step p s)
+  pub step_moves : (s : State) → HoldsAt s → Moves known heads main most return_most p high (first_work s.work) s (step p s)
   unfolding step
   step_moves s h =
       let o = opens known heads h.effect s.work h.place h.loop_end h.leads in
-      first_moves s h (first s.work) o.0 h.loop_end o.2 (stood_more h.base h.place o.0 s.cells s.entries o.1 h.stood)
+      first_moves s h (first_work s.work) o.0 h.loop_end o.2 (stood_more h.base h.place o.0 s.cells s.entries o.1 h.stood)
 
   abbrev OnwardTo : Outcome → Type 0
   OnwardTo o = Onward known heads main most return_most o
@@ -85,19 +85,19 @@ idle_fits : (known : Known) (heads : List (ℤ × ℤ)) → BodyFits known heads
 idle_fits known heads = (At entry, below_same (At entry), (refl, (omega (arith, ints), omega (arith, ints))))
 
 all_fine : (p : SourceProgram) (known : Known) (heads : List (ℤ × ℤ)) (bodies : List Nodes) (effects : List Effect) (definition k : ℕ) → BodiesFit p known heads bodies effects definition k → (d : ℕ) →
-    Fine p known heads (limits_of p (definition + d)) (slice_index_or effects d idle) (slice_index_or bodies d Empty)
-all_fine p known heads [] [] definition k v d = record { k = 0; fits = idle_fits known heads; keeps = idle_keeps (limits_of p (definition + d)) }
+    Fine p known heads (definition_limits p (definition + d)) (slice_index_or effects d idle) (slice_index_or bodies d Empty)
+all_fine p known heads [] [] definition k v d = record { k = 0; fits = idle_fits known heads; keeps = idle_keeps (definition_limits p (definition + d)) }
 all_fine p known heads [] (e ∷ effects) definition k v d = absurd v
 all_fine p known heads (body ∷ bodies) [] definition k v d = absurd v
 all_fine p known heads (body ∷ bodies) (e ∷ effects) definition k v zero =
     let same : definition ≡ definition + 0 = omega arith in
-    record { k = k; fits = v.0; keeps = subst (λ n. Keeps (limits_of p n) e) same v.1 }
+    record { k = k; fits = v.0; keeps = subst (λ n. Keeps (definition_limits p n) e) same v.1 }
 all_fine p known heads (body ∷ bodies) (e ∷ effects) definition k v (suc d) =
     let same : suc definition + d ≡ definition + suc d = omega arith in
-    subst (λ n. Fine p known heads (limits_of p n) (slice_index_or effects d idle) (slice_index_or bodies d Empty)) same (all_fine p known heads bodies effects (suc definition) (k + loops body) v.2 d)
+    subst (λ n. Fine p known heads (definition_limits p n) (slice_index_or effects d idle) (slice_index_or bodies d Empty)) same (all_fine p known heads bodies effects (suc definition) (k + loops body) v.2 d)
 
 -- the limits of MAIN, and of every definition
-main_limits : (p : SourceProgram) → limits_of p p.main_body ≡ record { need = 0; peak = if uses_depth p then 32 else 33; back = 31; top = 31 }
+main_limits : (p : SourceProgram) → definition_limits p p.main_body ≡ record { need = 0; peak = if uses_depth p then 32 else 33; back = 31; top = 31 }
 main_limits p =
     let same = eq-eqb p.main_body p.main_body refl in
     ap (λ b. if b then record { need = 0; peak = if uses_depth p then 32 else 33; back = 31; top = 31 } else record { need = 33; peak = 33; back = 31; top = 33 }) same
@@ -109,7 +109,7 @@ if_most false x y most h i = i
 abbrev chosen_limits : SourceProgram → Bool → Limits
 chosen_limits p b = if b then record { need = 0; peak = if uses_depth p then 32 else 33; back = 31; top = 31 } else record { need = 33; peak = 33; back = 31; top = 33 }
 
-any_limits : (p : SourceProgram) (d : ℕ) → ((limits_of p d).need ≤ 33) × ((limits_of p d).peak ≤ 33)
+any_limits : (p : SourceProgram) (d : ℕ) → ((definition_limits p d).need ≤ 33) × ((definition_limits p d).peak ≤ 33)
 any_limits p d = of (nat_eq d p.main_body)
   where
     of : (b : Bool) → ((chosen_limits p b).need ≤ 33) × ((chosen_limits p b).peak ≤ 33)
@@ -142,8 +142,8 @@ module _ (p : SourceProgram) (z : Cert) (valid : IsValid p z) where
   abbrev return_most : ℕ
   return_most = most_return_cells p z
 
-  fine : (d : ℕ) → Fine p known z.heads (limits_of p d) (effect_of known d) (body_of p d)
-  fine d = let same : 0 + d ≡ d = omega arith in subst (λ n. Fine p known z.heads (limits_of p n) (effect_of known d) (body_of p d)) same (all_fine p known z.heads p.bodies z.effects 0 0 valid.bodies d)
+  fine : (d : ℕ) → Fine p known z.heads (definition_limits p d) (effect_of known d) (body_of p d)
+  fine d = let same : 0 + d ≡ d = omega arith in subst (λ n. Fine p known z.heads (definition_limits p n) (effect_of known d) (body_of p d)) same (all_fine p known z.heads p.bodies z.effects 0 0 valid.bodies d)
 
   bodies : (d : ℕ) → (k : ℕ) × BodyFits known z.heads (effect_of known d) (body_of p d) k
   bodies d = ((fine d).k, (fine d).fits)
@@ -170,7 +170,7 @@ module _ (p : SourceProgram) (z : Cert) (valid : IsValid p z) where
   back : return_most ≤ 32
   back = (let b = main_keeps.back in omega (arith, b))
 
-  start : (input : List ℕ) → Holds known z.heads main most return_most (first_state p input)
+  start : (input : List ℕ) → KeepsFrames known z.heads main most return_most (first_state p input)
   start input =
       let b = bodies p.main_body in
       let lim = limits p.main_body in
@@ -192,7 +192,7 @@ module _ (p : SourceProgram) (z : Cert) (valid : IsValid p z) where
   unfolding source_run
   on input k = steps_onward p known z.heads main most return_most (most_cells p z) lower high ends tokens bodies limits k (first_state p input) (start input)
 
-  moves : (input : List ℕ) (j : ℕ) (s : State) → source_run p input j ≡ Goes s → Moves known z.heads main most return_most p (most_cells p z) (first s.work) s (step p s)
+  moves : (input : List ℕ) (j : ℕ) (s : State) → source_run p input j ≡ Goes s → Moves known z.heads main most return_most p (most_cells p z) (first_work s.work) s (step p s)
   moves input j s is = step_moves p known z.heads main most return_most (most_cells p z) lower high ends tokens bodies limits s (subst (Onward known z.heads main most return_most) is (on input j))
 
   all_within : (most_cells p z ≤ 33) × (most_return_cells p z ≤ 32) × ((input : List ℕ) → RunsWithin p (most_cells p z) (most_return_cells p z) input)

@@ -5,10 +5,10 @@ use Rattle.forth_program.specs.Tree.{Nodes}
 use Rattle.forth_program.specs.Program.{SourceProgram}
 use Rattle.depth_certifier.specs.declared.effect.Effect.{Effect}
 use Rattle.depth_certifier.specs.Certificate.{Cert}
-use Rattle.depth_certifier.specs.Rounds.{bottom, bottoms, Refusal, round, next_round, after_rounds, Refuses, Ending}
-use Rattle.depth_certifier.proofs.Keeping.{Intervals}
-use Rattle.depth_certifier.proofs.Rounding.{rounds_intervals}
-use Rattle.depth_certifier.proofs.Falling.{room, rounds_fine, rounds_rise, rounds_fall}
+use Rattle.depth_certifier.specs.Rounds.{bottom, bottoms, Refusal, round, next_round, after_rounds, RoundsRefuse, Ending}
+use Rattle.depth_certifier.proofs.WalkLimits.{Intervals}
+use Rattle.depth_certifier.proofs.RoundBounds.{rounds_intervals}
+use Rattle.depth_certifier.proofs.RoundTermination.{room, rounds_fine, rounds_rise, rounds_fall}
 
 abbrev pub cert : List Effect → Effect → List (ℤ × ℤ) → Cert
 cert effects shared heads = record { effects = effects; shared = shared; heads = heads }
@@ -39,7 +39,7 @@ module _ (p : SourceProgram) where
   stands_intervals effects shared s = rounds_intervals p s.n (cert effects shared s.heads) s.reached
 
   module _ (effects : List Effect) (shared : Effect) (s : Stands effects shared) where
-    pub round_refuses : (r : Refusal) → round p (record { definitions = effects; shared = shared }) ≡ Err r → Refuses p r
+    pub round_refuses : (r : Refusal) → round p (record { definitions = effects; shared = shared }) ≡ Err r → RoundsRefuse p r
     round_refuses r h = (suc s.n, ap (next_round p) s.reached ∙ h)
 
     pub round_ends : (next : List Effect) (joined : Effect) (heads : List (ℤ × ℤ)) → round p (record { definitions = effects; shared = shared }) ≡ Ok (cert next joined heads) → next ≡ effects → joined ≡ shared → Ending p (cert effects shared heads)

@@ -13,15 +13,15 @@ use Rattle.forth_program.specs.Meaning.{meaning}
 use Rattle.forth_program.specs.Step.{First, IsLiteral, IsWord, first_in, on_cells, with_token, word_step, act}
 use Rattle.depth_certifier.specs.declared.effect.Effect.{Effect}
 use Rattle.depth_certifier.specs.Place.{Shape, size, Stand, Place, Unreachable, At, Doubled, moved, Below, InLimits}
-use Rattle.depth_certifier.specs.Effects.{table_effect, moved_by, word_effect, execute_effect, Known, effect_of, Next, Return, Flag, More, is_jump, called, child_effect, keep, shape_after, kept_by}
+use Rattle.depth_certifier.specs.Effects.{table_effect, moved_by, word_effect, execute_effect, Known, effect_of, Next, Return, Flag, More, is_jump, called_effect, child_effect, keep, shape_after, kept_by}
 use Rattle.depth_certifier.specs.Certificate.{after, Allows, Leads, Doubles, doubles, WordLeads, ItemFits, ExitIn, EffectIn, TokenIn}
 use Rattle.forth_program.specs.Tail.{ends_body}
 use Rattle.forth_program.specs.Heights.{address_height, entries_height, callers_height, peak_of, back_of, token_back, execute_back, DepthFits}
 use Rattle.depth_certifier.specs.Soundness.{end_height}
-use Rattle.depth_certifier.proofs.Standing.{shape_of, Inside, Stood, LeavesWithin, below_same, below_then}
+use Rattle.depth_certifier.proofs.SourcePlaces.{shape_of, Inside, Stood, LeavesWithin, below_same, below_then}
 use Rattle.depth_certifier.proofs.Words.{When, Kept, changes, has_meaning, meaning_kept}
 use Rattle.depth_certifier.proofs.Work.{WorkFrom}
-use Rattle.depth_certifier.proofs.Frames.{Bounds, CallersFit, Holds, Onward, holds, need_met, peak_met, back_met, Reaches, reaches, kept_onward, Moves}
+use Rattle.depth_certifier.proofs.Frames.{Bounds, CallersFit, KeepsFrames, Onward, holds, need_met, peak_met, back_met, Reaches, reaches, kept_onward, Moves}
 
 int_le_true : (a b : ℤ) → int_le a b ≡ true → a ≤ℤ b
 int_le_true a b h = grind (arith, ints)
@@ -61,7 +61,7 @@ module _ (p : SourceProgram) (known : Known) (heads : List (ℤ × ℤ)) (main :
   abbrev pub From : List Work → Place → Place → Type 0
   From work s l = WorkFrom known heads e work s l
 
-  pub on : (w : List Work) (es : List Entry) (c : List ℕ) (s l : Place) → From w s l → Stood base s c es → length c ≤ most → entries_height es ≤ e.back → Holds known heads main most return_most (here w es c)
+  pub on : (w : List Work) (es : List Entry) (c : List ℕ) (s l : Place) → From w s l → Stood base s c es → length c ≤ most → entries_height es ≤ e.back → KeepsFrames known heads main most return_most (here w es c)
   on w es c s l f st few room = holds known heads main most return_most e base callers bounds below w es c world s l f st few room
 
   module _ (x : Effect) (q : Stand) (shape : Shape) (es : List Entry) (c : List ℕ) (allows : Allows e x q shape) (st : Inside base q (length c) es) where
@@ -111,7 +111,7 @@ module _ (p : SourceProgram) (known : Known) (heads : List (ℤ × ℤ)) (main :
   -- ---- words on return entries
 
   entries_word : (work w : List Work) (es es' : List Entry) (c c' : List ℕ) (word : Word) (q : Stand) (t l : Place) → Leads e (table_effect word) (shape_after word) (At q) t → Inside base q (length c) es → From work t l →
-      LeavesWithin (table_effect word).exit (length c) (length c') → shape_after word (shape_of es) ≡ Some (shape_of es') → length c' ≤ length c + (table_effect word).peak → Holds known heads main most return_most (here work es' c')
+      LeavesWithin (table_effect word).exit (length c) (length c') → shape_after word (shape_of es) ≡ Some (shape_of es') → length c' ≤ length c + (table_effect word).peak → KeepsFrames known heads main most return_most (here work es' c')
   entries_word work w es es' c c' word q t l leads st f h ch top =
       let r = reach (table_effect word) (shape_after word) q t (length c) es es' c' leads st h ch in
       on work es' c' t l f r.stood (let pk = peak (table_effect word) q leads.0 es c leads.2 st in omega (arith, pk, top)) r.room
@@ -231,7 +231,7 @@ module _ (p : SourceProgram) (known : Known) (heads : List (ℤ × ℤ)) (main :
   raised q = moved (lowered q) (pos 1) (pos 1)
 
   child_leads : (b : Bool) (x : Effect) (q : Stand) (t : Place) → EffectIn (child_effect x) known.shared → Leads e (execute_effect known.shared) keep (At q) t →
-      Leads e (table_effect table.Literal) keep (At (lowered q)) (At (raised q)) × Leads e (called (next_by b) x) keep (At (raised q)) (after x.exit (raised q) q.shape) × Below (after x.exit (raised q) q.shape) t
+      Leads e (table_effect table.Literal) keep (At (lowered q)) (At (raised q)) × Leads e (called_effect (next_by b) x) keep (At (raised q)) (after x.exit (raised q) q.shape) × Below (after x.exit (raised q) q.shape) t
   child_leads b x q t h leads =
       let same : q.shape ≡ leads.0 = (let i = leads.1 in cc (i)) in
       let a = leads.2 in
@@ -251,7 +251,7 @@ module _ (p : SourceProgram) (known : Known) (heads : List (ℤ × ℤ)) (main :
         room = omega (arith, n3);
       } in
       let limits : InLimits (At (raised q)) = (omega (arith, ints, n1, l1), omega (arith, ints, n2, l2)) in
-      let second : Allows e (called (next_by b) x) (raised q) q.shape = record {
+      let second : Allows e (called_effect (next_by b) x) (raised q) q.shape = record {
         need = omega (arith, ints, n1, h1);
         peak = omega (arith, ints, n2, h2);
         back = omega (arith, n3, h3, one);
@@ -277,7 +277,7 @@ module _ (p : SourceProgram) (known : Known) (heads : List (ℤ × ℤ)) (main :
       (_, subst (λ d. WordLeads known heads e d word (At (lowered q)) (after (table_effect word).exit (lowered q) q.shape)) (sym (no_doubling b word)) (subst (λ x. Leads e x (shape_after word) (At (lowered q)) (after (table_effect word).exit (lowered q) q.shape)) (sym is.1) r.0), r.1)
   token_fits b (Call d) q t l h leads =
       let x = effect_of known d in
-      let r = token_leads (called (next_by b) x) keep q t h.need h.peak (let n = h.back in omega (arith, n, one_more (is_jump (next_by b)))) h.exit refl leads in (_, r.0, r.1)
+      let r = token_leads (called_effect (next_by b) x) keep q t h.need h.peak (let n = h.back in omega (arith, n, one_more (is_jump (next_by b)))) h.exit refl leads in (_, r.0, r.1)
   token_fits b (Child d a) q t l h leads =
       let r = child_leads b (effect_of known d) q t h leads in (_, (_, r.0, r.1), r.2)
   token_fits b (Text kind a n) q t l h leads = absurd h

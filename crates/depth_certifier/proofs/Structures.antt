@@ -12,17 +12,17 @@ use Rattle.forth_program.specs.State.{Entry, Cell, Loop, Work, Todo, UntilTest, 
 use Rattle.forth_program.specs.Program.{SourceProgram, body_of}
 use Rattle.forth_program.specs.ByteWords.{type_out}
 use Rattle.forth_program.specs.Step.{called as begun}
-use Rattle.forth_program.specs.Step.{First, BodyEnd, IsCall, IsChild, IsText, IsIf, IsTrueEnd, IsUntil, IsWhile, IsRepeat, IsAgain, IsDo, IsQDo, IsTurn, IsOf, IsEndOf, IsEndCase, IsLeave, IsExit, before, text_step, on_flag, closed_by, crosses, turned, leave, after_loop, left, act}
+use Rattle.forth_program.specs.Step.{First, BodyEnd, IsCall, IsChild, IsText, IsIf, IsTrueEnd, IsUntil, IsWhile, IsRepeat, IsAgain, IsDo, IsQDo, IsTurn, IsOf, IsEndOf, IsEndCase, IsLeave, IsExit, before, text_step, on_flag, closed_by, crosses, turned, leave, after_loop, unwound, act}
 use Rattle.depth_certifier.specs.declared.effect.Effect.{Effect}
 use Rattle.depth_certifier.specs.Place.{OfCell, OfLoop, Shape, Stand, Place, Unreachable, At, Doubled, entry, Below, from_zero}
-use Rattle.depth_certifier.specs.Effects.{table_effect, branch_next, Known, effect_of, Next, Return, Flag, More, called, keep, push_loop, turn_word, text_word, of_effect}
+use Rattle.depth_certifier.specs.Effects.{table_effect, branch_next, Known, effect_of, Next, Return, Flag, More, called_effect, keep, push_loop, turn_word, text_word, of_effect}
 use Rattle.depth_certifier.specs.Certificate.{loops, after, Allows, Leads, Decides, Head, SameShape, without_loop, dropped, EndsBody, ExitHas, Fits, BodyFits}
 use Rattle.forth_program.specs.Heights.{address_height, entries_height, callers_height, end_peak, text_peak, text_back, peak_of, back_of, execute_back, DepthFits}
 use Rattle.depth_certifier.specs.Soundness.{end_height}
-use Rattle.depth_certifier.proofs.Standing.{shape_of, Inside, Stood, LeavesWithin, OnLoop, below_same}
+use Rattle.depth_certifier.proofs.SourcePlaces.{shape_of, Inside, Stood, LeavesWithin, OnLoop, below_same}
 use Rattle.depth_certifier.proofs.Words.{changes, owed, type_sound}
 use Rattle.depth_certifier.proofs.Work.{Matches, open_matches, closed_matches, DoTurns, head_above, LeavesLoop, leaves_loop, WorkLeads, from_more, enter, closed}
-use Rattle.depth_certifier.proofs.Frames.{Bounds, Returns, returns_of, CallersFit, Holds, Onward, holds, Reaches, kept_onward}
+use Rattle.depth_certifier.proofs.Frames.{Bounds, Returns, returns_of, CallersFit, KeepsFrames, Onward, holds, Reaches, kept_onward}
 use Rattle.depth_certifier.proofs.Steps as steps
 
 no_entries : (entries : List Entry) → shape_of entries ≡ [] → entries ≡ []
@@ -41,7 +41,7 @@ module _ (p : SourceProgram) (known : Known) (heads : List (ℤ × ℤ)) (main :
   abbrev From : List Work → Place → Place → Type 0
   From work s l = steps.From p known heads main most return_most high lower limit ends e base callers bounds below world work s l
 
-  on : (w : List Work) (es : List Entry) (c : List ℕ) (s l : Place) → From w s l → Stood base s c es → length c ≤ most → entries_height es ≤ e.back → Holds known heads main most return_most (here w es c)
+  on : (w : List Work) (es : List Entry) (c : List ℕ) (s l : Place) → From w s l → Stood base s c es → length c ≤ most → entries_height es ≤ e.back → KeepsFrames known heads main most return_most (here w es c)
   on w es c s l f st few room = steps.on p known heads main most return_most high lower limit ends e base callers bounds below world w es c s l f st few room
 
   module _ (x : Effect) (q : Stand) (shape : Shape) (es : List Entry) (c : List ℕ) (allows : Allows e x q shape) (st : Inside base q (length c) es) where
@@ -166,7 +166,7 @@ module _ (p : SourceProgram) (known : Known) (heads : List (ℤ × ℤ)) (main :
 
     loop_onward : (body : Nodes) (plus : Bool) (work : List Work) (es : List Entry) (c : List ℕ) (start limit : ℕ) (q : Stand) (k : ℕ) (i h l m n outer : Place) → Leads e x push_loop (At q) i → Head heads k i h → DoTurns known heads e body plus l h m n →
         Fits known heads e More body (k + 1) h l m → From work (dropped l) outer → Inside base q (suc (suc (length c))) es → suc (suc (length c)) ≤ most →
-        Holds known heads main most return_most (here (before body (Turn body plus ∷ work)) (Loop limit start ∷ es) c)
+        KeepsFrames known heads main most return_most (here (before body (Turn body plus ∷ work)) (Loop limit start ∷ es) c)
     loop_onward body plus work es c start limit q k i h l m n outer leads head turns items out st few =
         let r = begun_at q i start limit es c leads st in
         on (before body (Turn body plus ∷ work)) (Loop limit start ∷ es) c i l
@@ -192,7 +192,7 @@ module _ (p : SourceProgram) (known : Known) (heads : List (ℤ × ℤ)) (main :
         onward = loop_onward (table_effect table.Do) refl body plus work es c start limit q f.2 g.0 g.2 g.4 g.6 g.8 l g.1 g.3 turns g.7 (f.5, subst (λ z. Below z f.5) g.12 f.6, f.7) st few;
       }
 
-  either : (b : Bool) (s t : State) → Holds known heads main most return_most s → Holds known heads main most return_most t → Onward known heads main most return_most (if b then Goes s else Goes t)
+  either : (b : Bool) (s t : State) → KeepsFrames known heads main most return_most s → KeepsFrames known heads main most return_most t → Onward known heads main most return_most (if b then Goes s else Goes t)
   either true s t h i = h
   either false s t h i = i
 
@@ -368,7 +368,7 @@ module _ (p : SourceProgram) (known : Known) (heads : List (ℤ × ℤ)) (main :
       up (negsuc m) a b = absurd (omega (arith, ints, a))
 
   ends_onward : (cs : List Frame) (es : List Entry) (w : List Work) (c : List ℕ) (q : Stand) → CallersFit known heads main most return_most e base cs → ExitHas e.exit q → Inside base q (length c) [] → length c ≤ most →
-      (length c + end_peak cs ≤ high) × Onward known heads main most return_most (left [] cs (here w es c))
+      (length c + end_peak cs ≤ high) × Onward known heads main most return_most (unwound [] cs (here w es c))
   ends_onward [] es w c q b h st few =
       let h' : ExitHas main.exit q = subst (λ z. ExitHas z.exit q) b.1 h in
       let st' : pos (length c) ≤ℤ q.high = (let i = st.high in let z = b.0 in zero_base base q.high z i) in
@@ -381,13 +381,13 @@ module _ (p : SourceProgram) (known : Known) (heads : List (ℤ × ℤ)) (main :
       (omega (arith, few, lower), record { effect = b.0; base = b.1; place = wait.place; loop_end = wait.loop_end; leads = wait.leads; stood = returned e.exit q c [] wait.place b.1 frame.entries h st wait.returns; bounds = wait.bounds; callers = b.3; few = few; room = wait.room })
 
   end_facts : (es : List Entry) (w : List Work) (c : List ℕ) (place : Place) → EndsBody e place → Stood base place c es → length c ≤ most →
-      (es ≡ []) × (length c + end_peak callers ≤ high) × Onward known heads main most return_most (left es callers (here w es c))
+      (es ≡ []) × (length c + end_peak callers ≤ high) × Onward known heads main most return_most (unwound es callers (here w es c))
   end_facts es w c Unreachable h st few = absurd st
   end_facts es w c (Doubled q) h st few = absurd h
   end_facts es w c (At q) h st few =
       let none = no_entries es (st.same ∙ h.0) in
       let r = ends_onward callers es w c q below h.1 (subst (λ z. Inside base q (length c) z) none st) few in
-      (none, r.0, subst (λ z. Onward known heads main most return_most (left z callers (here w es c))) (sym none) r.1)
+      (none, r.0, subst (λ z. Onward known heads main most return_most (unwound z callers (here w es c))) (sym none) r.1)
 
   pub body_end_moves : (w : List Work) (es : List Entry) (c : List ℕ) (place : Place) → EndsBody e place → Stood base place c es → length c ≤ most → entries_height es ≤ e.back → Step BodyEnd w es c
   body_end_moves w es c place h st few room =
@@ -443,11 +443,11 @@ module _ (p : SourceProgram) (known : Known) (heads : List (ℤ × ℤ)) (main :
   -- ---- calls
 
   module _ (bodies : (d : ℕ) → (k : ℕ) × BodyFits known heads (effect_of known d) (body_of p d) k) (limits : (d : ℕ) → ((effect_of known d).need ≤ 33) × ((effect_of known d).peak ≤ 33)) where
-    call_onward : (d : ℕ) (next : Next) (work w : List Work) (es : List Entry) (c : List ℕ) (q : Stand) (t l : Place) → Matches next work → Leads e (called next (effect_of known d)) keep (At q) t → Inside base q (length c) es → length c ≤ most → entries_height es ≤ e.back → From work t l →
-        Holds known heads main most return_most (begun p d (here work es c))
+    call_onward : (d : ℕ) (next : Next) (work w : List Work) (es : List Entry) (c : List ℕ) (q : Stand) (t l : Place) → Matches next work → Leads e (called_effect next (effect_of known d)) keep (At q) t → Inside base q (length c) es → length c ≤ most → entries_height es ≤ e.back → From work t l →
+        KeepsFrames known heads main most return_most (begun p d (here work es c))
     call_onward d next work w es c q t l m leads st few room f =
         let x = effect_of known d in
-        let y = called next x in
+        let y = called_effect next x in
         let n1 = need y q leads.0 es c leads.2 st in
         let n2 = peak y q leads.0 es c leads.2 st in
         let n3 = back y q leads.0 es c leads.2 st in
@@ -463,12 +463,12 @@ module _ (p : SourceProgram) (known : Known) (heads : List (ℤ × ℤ)) (main :
         (enter known heads x Return (body_of p d) body.0 (At entry) Unreachable body.1.0 [] body.1.1 refl (body.1.0, below_same body.1.0, (body.1.2, refl)))
         (record { low = omega (arith, ints); high = omega (arith, ints); same = refl }) few (omega arith)
 
-    pub call_moves : (d : ℕ) (next : Next) (work w : List Work) (es : List Entry) (c : List ℕ) (place t l : Place) → Matches next work → Leads e (called next (effect_of known d)) keep place t → Stood base place c es → length c ≤ most → entries_height es ≤ e.back → From work t l → Step (IsCall d work) w es c
+    pub call_moves : (d : ℕ) (next : Next) (work w : List Work) (es : List Entry) (c : List ℕ) (place t l : Place) → Matches next work → Leads e (called_effect next (effect_of known d)) keep place t → Stood base place c es → length c ≤ most → entries_height es ≤ e.back → From work t l → Step (IsCall d work) w es c
     call_moves d next work w es c Unreachable t l m leads st few room f = absurd st
     call_moves d next work w es c (Doubled q) t l m leads st few room f = absurd leads
     call_moves d next work w es c (At q) t l m leads st few room f = quiet (IsCall d work) w es c refl refl tt refl few room (call_onward d next work w es c q t l m leads st few room f)
 
-    pub child_moves : (d a : ℕ) (next : Next) (work w : List Work) (es : List Entry) (c : List ℕ) (place m t l : Place) → Matches next work → Leads e (table_effect table.Literal) keep place m → Leads e (called next (effect_of known d)) keep m t → Stood base place c es → length c ≤ most → entries_height es ≤ e.back → From work t l →
+    pub child_moves : (d a : ℕ) (next : Next) (work w : List Work) (es : List Entry) (c : List ℕ) (place m t l : Place) → Matches next work → Leads e (table_effect table.Literal) keep place m → Leads e (called_effect next (effect_of known d)) keep m t → Stood base place c es → length c ≤ most → entries_height es ≤ e.back → From work t l →
         Step (IsChild d a work) w es c
     child_moves d a next work w es c Unreachable m t l ma literal leads st few room f = absurd st
     child_moves d a next work w es c (Doubled q) m t l ma literal leads st few room f = absurd literal
@@ -481,5 +481,5 @@ module _ (p : SourceProgram) (known : Known) (heads : List (ℤ × ℤ)) (main :
           return_cells = omega (arith, room, bounds.back);
           depth = tt;
           executes = omega (arith, room, bounds.back);
-          onward = call_onward d next work w es (a ∷ c) r' t l ma (subst (λ z. Leads e (called next (effect_of known d)) keep z t) literal.3 leads) (subst (λ z. Stood base z (a ∷ c) es) literal.3 r.stood) (omega (arith, pk)) room f;
+          onward = call_onward d next work w es (a ∷ c) r' t l ma (subst (λ z. Leads e (called_effect next (effect_of known d)) keep z t) literal.3 leads) (subst (λ z. Stood base z (a ∷ c) es) literal.3 r.stood) (omega (arith, pk)) room f;
         }

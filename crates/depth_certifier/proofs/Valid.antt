@@ -6,13 +6,13 @@ use Rattle.word_table.specs.declared.word.Word.TheVariants as table
 use Rattle.forth_program.specs.Tree.{Node, Nodes, Arms, Literal, Plain, Call, Child, Text, If, Until, While, Again, Do, QDo, Case, Leave, Exit, Empty, Then, NoArm, Arm}
 use Rattle.depth_certifier.specs.declared.effect.Effect.{Effect}
 use Rattle.depth_certifier.specs.Place.{Shape, Stand, Place, Unreachable, At, Doubled, Below}
-use Rattle.depth_certifier.specs.Effects.{table_effect, Known, effect_of, Next, Flag, More, next_of, branch_next, called, word_effect, shape_after, keep, push_loop, text_word, turn_word, of_effect}
+use Rattle.depth_certifier.specs.Effects.{table_effect, Known, effect_of, Next, Flag, More, next_of, branch_next, called_effect, word_effect, shape_after, keep, push_loop, text_word, turn_word, of_effect}
 use Rattle.depth_certifier.specs.Certificate.{loops_in, loops, loops_in_arms, Head, SameShape, dropped, doubles, WordLeads, ItemFits, Fits, ArmsFit, EffectIn, Limits}
 use Rattle.depth_certifier.specs.Walk.{Walk, Walked, then_do, takes, decides, zero_way, joins, leaving, enters, returns_to, shape_at, word_walk, item_walk, walk, arms_walk, made}
-use Rattle.depth_certifier.proofs.Standing.{below_same, below_then}
+use Rattle.depth_certifier.proofs.SourcePlaces.{below_same, below_then}
 use Rattle.depth_certifier.proofs.Work.{CaseEnds, head_above}
 use Rattle.depth_certifier.proofs.Tests.{then_ok, effect_in_same, effect_in_then}
-use Rattle.depth_certifier.proofs.Holding.{Grows, grows_then, grows_same, grows_as, grows_length, append_nil, steps_grow, Took, took, doubled_at, Decided, decided, ShapeIs, Joined, joined_by, Returned, returned, Topped, left, ended, Noted, noted_earlier, Entered, entered}
+use Rattle.depth_certifier.proofs.WalkFits.{Grows, grows_then, grows_same, grows_as, grows_length, append_nil, steps_grow, Took, took, doubled_at, Decided, decided, ShapeIs, Joined, joined_by, Returned, returned, Topped, left, ended, Noted, noted_earlier, Entered, entered}
 
 -- places do not matter to what grows
 from_place : (w m : Walk) (s : Place) (n : ℕ) → Grows (record w { place = s }) m n → Grows w m n
@@ -341,13 +341,13 @@ module _ (lim : Limits) (zs : Known) (given : Option (List (ℤ × ℤ))) where
         record { grows = steps_grow w o t.steps; topped = took_topped top w o tp t.steps.leaves; fits = λ e g hs n l b. t.leads e g }
     item_stands (Plain word) top next w o tp h = word_stands (doubles next word) top next word w o refl tp h
     item_stands (Call d) top next w o tp h =
-        let t = took lim (called next (effect_of zs d)) keep w o h in
+        let t = took lim (called_effect next (effect_of zs d)) keep w o h in
         record { grows = steps_grow w o t.steps; topped = took_topped top w o tp t.steps.leaves; fits = λ e g hs n l b. t.leads e g }
     item_stands (Child d a) top next w o tp h =
-        let r = then_ok (takes lim (table_effect table.Literal) keep w) (takes lim (called next (effect_of zs d)) keep) o h in
+        let r = then_ok (takes lim (table_effect table.Literal) keep w) (takes lim (called_effect next (effect_of zs d)) keep) o h in
         let m = r.0 in
         let t1 = took lim (table_effect table.Literal) keep w m r.1 in
-        let t2 = took lim (called next (effect_of zs d)) keep m o r.2 in
+        let t2 = took lim (called_effect next (effect_of zs d)) keep m o r.2 in
         record {
           grows = grows_then w m o 0 0 (steps_grow w m t1.steps) (steps_grow m o t2.steps);
           topped = took_topped top m o (took_topped top w m tp t1.steps.leaves) t2.steps.leaves;

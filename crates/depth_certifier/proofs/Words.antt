@@ -20,7 +20,7 @@ use Rattle.forth_program.specs.Meaning.{both, quotient_only, rest_only, meaning}
 use Rattle.forth_program.specs.Form.{is_code_class}
 use Rattle.depth_certifier.specs.Effects.{table_effect}
 use Rattle.forth_program.specs.Run.{lacks}
-use Rattle.depth_certifier.proofs.Standing.{LeavesWithin}
+use Rattle.depth_certifier.proofs.SourcePlaces.{LeavesWithin}
 
 -- it does not end for want of cells or of return entries
 abbrev pub Sound : {A : Type 0} → Reply A → Type 0

@@ -4,13 +4,13 @@ use Rattle.std.specs.Prelude.{ℤ, negsuc}
 use Rattle.word_table.specs.declared.word.Word.TheVariants as table
 use Rattle.forth_program.specs.Tree.{Node, Nodes, Arms, Literal, Plain, Call, Child, Text, If, Until, While, Again, Do, QDo, Case, Leave, Exit, Empty, Then, NoArm, Arm}
 use Rattle.forth_program.specs.State.{Work, Todo, TrueEnd, UntilTest, WhileTest, Repeat, BeginAgain, Turn, OfTest, EndOf, EndCase}
-use Rattle.forth_program.specs.Step.{First, BodyEnd, IsLiteral, IsWord, IsCall, IsChild, IsText, IsIf, IsTrueEnd, IsUntil, IsWhile, IsRepeat, IsAgain, IsDo, IsQDo, IsTurn, IsOf, IsEndOf, IsEndCase, IsLeave, IsExit, before, first_in, first_among, first, closed_by, after_loop}
+use Rattle.forth_program.specs.Step.{First, BodyEnd, IsLiteral, IsWord, IsCall, IsChild, IsText, IsIf, IsTrueEnd, IsUntil, IsWhile, IsRepeat, IsAgain, IsDo, IsQDo, IsTurn, IsOf, IsEndOf, IsEndCase, IsLeave, IsExit, before, first_in, first_among, first_work, closed_by, after_loop}
 use Rattle.forth_program.specs.Tail.{ends_body}
 use Rattle.depth_certifier.specs.declared.effect.Effect.{Effect}
 use Rattle.depth_certifier.specs.Place.{Stand, Place, Unreachable, At, Doubled, Below}
 use Rattle.depth_certifier.specs.Effects.{table_effect, Known, Next, Return, Flag, More, next_of, branch_next, is_jump, keep, turn_word, of_effect}
 use Rattle.depth_certifier.specs.Certificate.{loops, Leads, Decides, Head, dropped, EndsBody, ItemFits, Fits, ArmsFit}
-use Rattle.depth_certifier.proofs.Standing.{below_same, below_then, OnLoop}
+use Rattle.depth_certifier.proofs.SourcePlaces.{below_same, below_then, OnLoop}
 
 -- a call before this work is a jump exactly where the work only ends the body
 abbrev pub Matches : Next → List Work → Type 0
@@ -192,7 +192,7 @@ module _ (known : Known) (heads : List (ℤ × ℤ)) (e : Effect) where
     opens_items next (Then node rest) k s l t work f h m w o =
         opens_item (next_of next rest) node k s l h.0 (before rest work) h.1 (next_matches next rest work m) (enter next rest _ h.0 l t work h.2 m w)
 
-  pub opens : (work : List Work) (s l : Place) → WorkLeads work s l → Opened (first work) s l
+  pub opens : (work : List Work) (s l : Place) → WorkLeads work s l → Opened (first_work work) s l
   opens [] s l w = (s, below_same s, w.0)
   opens (Todo node ∷ work) s l w = opens_item w.0 node w.2 s l w.3 work w.4 w.1 (w.5, w.6, w.7)
   opens (TrueEnd ∷ work) s l w = (s, below_same s, w)

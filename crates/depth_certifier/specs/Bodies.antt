@@ -10,8 +10,8 @@ use Rattle.depth_certifier.specs.Checking.{effect_in, walked_and}
 use Rattle.depth_certifier.specs.Notes.{walk_in}
 
 -- the walk before a body, after so many loops
-abbrev pub begun : ℕ → Walk
-begun count = record { place = At entry; leaves = Unreachable; need = 0; peak = 0; back = 0; exit = None; heads = replicate count no_interval }
+abbrev pub walk_start : ℕ → Walk
+walk_start count = record { place = At entry; leaves = Unreachable; need = 0; peak = 0; back = 0; exit = None; heads = replicate count no_interval }
 
 -- what a whole body gives
 abbrev pub BodyOf : Bool → List (ℤ × ℤ) → Result Walker CertCause → Walked → Type 0

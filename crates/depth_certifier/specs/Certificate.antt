@@ -9,7 +9,7 @@ use Rattle.forth_program.specs.Program.{SourceProgram, uses_depth}
 use Rattle.forth_program.specs.Form.{may_be_token}
 use Rattle.depth_certifier.specs.declared.effect.Effect.{Effect}
 use Rattle.depth_certifier.specs.Place.{Shape, size, Stand, Place, Unreachable, At, Doubled, moved, entry, InsideBy, Below, InLimits}
-use Rattle.depth_certifier.specs.Effects.{table_effect, Known, effect_of, Next, Return, Flag, More, next_of, branch_next, called, word_effect, shape_after, keep, push_loop, text_word, turn_word, of_effect, child_effect}
+use Rattle.depth_certifier.specs.Effects.{table_effect, Known, effect_of, Next, Return, Flag, More, next_of, branch_next, called_effect, word_effect, shape_after, keep, push_loop, text_word, turn_word, of_effect, child_effect}
 
 -- how many loops there are
 abbrev mutual
@@ -116,9 +116,9 @@ module _ (known : Known) (heads : List (ℤ × ℤ)) (body : Effect) where
     pub ItemFits : Next → Node → ℕ → Place → Place → Place → Type 0
     ItemFits next (Literal value) k s l t = Leads body (table_effect table.Literal) keep s t
     ItemFits next (Plain word) k s l t = WordLeads (doubles next word) word s t
-    ItemFits next (Call definition) k s l t = Leads body (called next (effect_of known definition)) keep s t
+    ItemFits next (Call definition) k s l t = Leads body (called_effect next (effect_of known definition)) keep s t
     ItemFits next (Child definition address) k s l t =
-        (m : Place) × Leads body (table_effect table.Literal) keep s m × Leads body (called next (effect_of known definition)) keep m t
+        (m : Place) × Leads body (table_effect table.Literal) keep s m × Leads body (called_effect next (effect_of known definition)) keep m t
     ItemFits next (Text kind address length) k s l t = Leads body (table_effect (text_word kind)) keep s t
     ItemFits next (If first second) k s l t =
         (on_true : Place) × (on_false : Place) × Decides body s on_true on_false × Fits (branch_next next) first k on_true l t × Fits (branch_next next) second (k + loops first) on_false l t
@@ -187,8 +187,8 @@ pub record Limits : Type 0 where
   pub top : ℕ
 
 -- a place too many would be read by DEPTH, whose cells read a pointer of five bits
-abbrev pub limits_of : SourceProgram → ℕ → Limits
-limits_of p definition =
+abbrev pub definition_limits : SourceProgram → ℕ → Limits
+definition_limits p definition =
     if nat_eq definition p.main_body then record { need = 0; peak = if uses_depth p then 32 else 33; back = 31; top = 31 }
     else record { need = 33; peak = 33; back = 31; top = 33 }
 
@@ -221,7 +221,7 @@ module _ (p : SourceProgram) (known : Known) (heads : List (ℤ × ℤ)) where
   BodiesFit [] (e ∷ effects) definition k = ⊥
   BodiesFit (body ∷ bodies) [] definition k = ⊥
   BodiesFit (body ∷ bodies) (e ∷ effects) definition k =
-      BodyFits known heads e body k × Keeps (limits_of p definition) e × BodiesFit bodies effects (suc definition) (k + loops body)
+      BodyFits known heads e body k × Keeps (definition_limits p definition) e × BodiesFit bodies effects (suc definition) (k + loops body)
 
 abbrev pub SharedInterval : Option (ℤ × ℤ) → Type 0
 SharedInterval None = Unit {0}

@@ -5,7 +5,7 @@ use Rattle.forth_program.specs.Tree.{Nodes}
 use Rattle.forth_program.specs.Program.{SourceProgram}
 use Rattle.depth_certifier.specs.declared.effect.Effect.{Effect}
 use Rattle.depth_certifier.specs.Effects.{Known}
-use Rattle.depth_certifier.specs.Certificate.{Limits, limits_of, Cert, known_of, IsValid}
+use Rattle.depth_certifier.specs.Certificate.{Limits, definition_limits, Cert, known_of, IsValid}
 use Rattle.depth_certifier.specs.Walk.{Walk, Walked, body_walk, made}
 use Rattle.depth_certifier.specs.Rounds.{token_effect, ProperToken}
 
@@ -44,8 +44,8 @@ module _ (p : SourceProgram) (known : Known) (heads : List (ℤ × ℤ)) where
   bodies_check [] (e ∷ effects) definition noted = false
   bodies_check (body ∷ bodies) [] definition noted = false
   bodies_check (body ∷ bodies) (e ∷ effects) definition noted =
-      effect_keeps (limits_of p definition) e
-      && walked_and (body_walk (limits_of p definition) known (Some heads) body noted) (λ w. effect_in (made w) e && bodies_check bodies effects (suc definition) w.heads)
+      effect_keeps (definition_limits p definition) e
+      && walked_and (body_walk (definition_limits p definition) known (Some heads) body noted) (λ w. effect_in (made w) e && bodies_check bodies effects (suc definition) w.heads)
 
 abbrev pub is_valid : SourceProgram → Cert → Bool
 is_valid p z =

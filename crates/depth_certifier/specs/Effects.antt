@@ -56,8 +56,8 @@ is_jump Return = true
 is_jump Flag = false
 is_jump More = false
 
-abbrev pub called : Next → Effect → Effect
-called next x = record { need = x.need; peak = x.peak; back = x.back + address_height (is_jump next); exit = x.exit }
+abbrev pub called_effect : Next → Effect → Effect
+called_effect next x = record { need = x.need; peak = x.peak; back = x.back + address_height (is_jump next); exit = x.exit }
 
 -- ---- words
 

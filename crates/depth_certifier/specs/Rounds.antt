@@ -9,7 +9,7 @@ use Rattle.forth_program.specs.Form.{may_be_token}
 use Rattle.depth_certifier.specs.declared.effect.Effect.{Effect}
 use Rattle.depth_certifier.specs.declared.effect.CertCause.{CertCause}
 use Rattle.depth_certifier.specs.Effects.{table_effect, Known, effect_of, child_effect}
-use Rattle.depth_certifier.specs.Certificate.{no_interval, ExitIn, EffectIn, Limits, limits_of, Cert, known_of, IsValid}
+use Rattle.depth_certifier.specs.Certificate.{no_interval, ExitIn, EffectIn, Limits, definition_limits, Cert, known_of, IsValid}
 use Rattle.depth_certifier.specs.Walk.{Walk, Walked, body_walk, made}
 
 -- of a definition that is not known to return
@@ -77,7 +77,7 @@ with_shared p shared (Err r) = Err r
 
 -- the new effects take the place of the old ones, and then the shared effect is joined anew
 abbrev pub round : SourceProgram → Known → Result Cert Refusal
-round p known = with_shared p known.shared (bodies_round (limits_of p) known p.bodies 0 [])
+round p known = with_shared p known.shared (bodies_round (definition_limits p) known p.bodies 0 [])
 
 abbrev pub next_round : SourceProgram → Result Cert Refusal → Result Cert Refusal
 next_round p (Ok z) = round p (known_of z)
@@ -92,8 +92,8 @@ after_rounds p zero = Ok (record { effects = bottoms p; shared = bottom; heads =
 after_rounds p (suc n) = next_round p (after_rounds p n)
 
 -- the refusal that the rounds meet first
-abbrev pub Refuses : SourceProgram → Refusal → Type 0
-Refuses p r = (n : ℕ) × (after_rounds p n ≡ Err r)
+abbrev pub RoundsRefuse : SourceProgram → Refusal → Type 0
+RoundsRefuse p r = (n : ℕ) × (after_rounds p n ≡ Err r)
 
 -- ---- the least certificate
 
@@ -124,7 +124,7 @@ pub record Ending (p : SourceProgram) (z : Cert) : Type 0 where
 
 -- the rounds settle or refuse
 abbrev pub Judged : SourceProgram → Type 0
-Judged p = ((z : Cert) × Ending p z) ⊎ ((r : Refusal) × Refuses p r)
+Judged p = ((z : Cert) × Ending p z) ⊎ ((r : Refusal) × RoundsRefuse p r)
 
 -- ---- laws
 
@@ -138,11 +138,11 @@ RoundsFindTheLeast = (p : SourceProgram) (z : Cert) → All ProperToken p.tokens
 
 -- where they refuse there is none
 abbrev pub RefusedHaveNone : Type 0
-RefusedHaveNone = (p : SourceProgram) (r : Refusal) (z : Cert) → Refuses p r → IsValid p z → ⊥
+RefusedHaveNone = (p : SourceProgram) (r : Refusal) (z : Cert) → RoundsRefuse p r → IsValid p z → ⊥
 
 -- there is one refusal at most
 abbrev pub OneRefusal : Type 0
-OneRefusal = (p : SourceProgram) (r s : Refusal) → Refuses p r → Refuses p s → r ≡ s
+OneRefusal = (p : SourceProgram) (r s : Refusal) → RoundsRefuse p r → RoundsRefuse p s → r ≡ s
 
 -- and one least certificate
 abbrev pub OneLeast : Type 0

@@ -9,7 +9,7 @@ use Rattle.depth_certifier.specs.declared.refused.CertError.TheVariants.{NotCert
 use Rattle.depth_certifier.specs.Effects.{Known, idle}
 use Rattle.depth_certifier.specs.Certificate.{Limits, Keeps, Cert}
 use Rattle.depth_certifier.specs.Walk.{Walk, Walked, made}
-use Rattle.depth_certifier.specs.Rounds.{bottom, Refusal, Bodies, Refuses, Ending}
+use Rattle.depth_certifier.specs.Rounds.{bottom, Refusal, Bodies, RoundsRefuse, Ending}
 
 -- of any definition
 abbrev pub widest : Limits
@@ -43,7 +43,7 @@ RoundOf (Err refused) effects heads r = r ≡ Err (refusal_of refused)
 -- what all rounds give
 abbrev pub Settles : SourceProgram → Result Effect Refused → List Effect → List (ℤ × ℤ) → Type 0
 Settles p (Ok shared) effects heads = Ending p (record { effects = effects; shared = shared; heads = heads })
-Settles p (Err refused) effects heads = Refuses p (refusal_of refused)
+Settles p (Err refused) effects heads = RoundsRefuse p (refusal_of refused)
 
 -- an error that is a refusal, of which this is said; nothing is said of want of memory
 abbrev pub IsRefusal : CertError → (Refusal → Type 0) → Type 0

@@ -1,7 +1,7 @@
 -- What a valid certificate says of every run.
 use Rattle.std.specs.Prelude.{ℕ, ◌+◌, ◌≤◌, max, List, Option, Some, None, ℤ}
 use Rattle.forth_program.specs.Program.{SourceProgram}
-use Rattle.forth_program.specs.Heights.{StacksFit, GoesWell}
+use Rattle.forth_program.specs.Heights.{StacksFit, IsSafe}
 use Rattle.depth_certifier.specs.declared.effect.Effect.{Effect}
 use Rattle.depth_certifier.specs.Place.{from_zero}
 use Rattle.depth_certifier.specs.Effects.{effect_of}
@@ -25,7 +25,7 @@ most_return_cells p z = (main_effect p z).back + 1
 
 -- a run never lacks cells or return entries, DEPTH counts at most 31 cells, and each step takes at most so many cells of both stacks
 pub record RunsWithin (p : SourceProgram) (high return_high : ℕ) (input : List ℕ) : Type 0 where
-  pub goes_well : (k : ℕ) → GoesWell p input k
+  pub goes_well : (k : ℕ) → IsSafe p input k
   pub stacks_fit : (k : ℕ) → StacksFit p input high return_high k
 
 -- so it is of every run of a program with a valid certificate: the chip has 33 data cells and 32 return cells

@@ -25,10 +25,10 @@ effect_of_demand x = record { need = x.need; peak = x.peak; back = x.back; exit 
 abbrev pub stand_of : Spot → Stand
 stand_of spot = record { low = spot.low; high = spot.high; shape = entries_of spot.entries }
 
-abbrev pub place_of : Reach → Place
-place_of reach.Unreachable = Unreachable
-place_of (reach.At spot) = At (stand_of spot)
-place_of (reach.Doubled query) = Doubled (stand_of query.spot)
+abbrev pub place_of_reach : Reach → Place
+place_of_reach reach.Unreachable = Unreachable
+place_of_reach (reach.At spot) = At (stand_of spot)
+place_of_reach (reach.Doubled query) = Doubled (stand_of query.spot)
 
 abbrev pub change_of : EntryChange → Shape → Option Shape
 change_of entries.Keep shape = keep shape

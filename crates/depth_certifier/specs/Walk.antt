@@ -10,7 +10,7 @@ use Rattle.depth_certifier.specs.declared.effect.Effect.{Effect}
 use Rattle.depth_certifier.specs.declared.effect.CertCause.{CertCause}
 use Rattle.depth_certifier.specs.declared.effect.CertCause.TheVariants as cause
 use Rattle.depth_certifier.specs.Place.{Slot, OfCell, OfLoop, Shape, size, Stand, Place, Unreachable, At, Doubled, moved, entry, from_zero}
-use Rattle.depth_certifier.specs.Effects.{table_effect, Known, effect_of, Next, Return, Flag, More, next_of, branch_next, called, word_effect, shape_after, keep, push_loop, text_word, turn_word, of_effect}
+use Rattle.depth_certifier.specs.Effects.{table_effect, Known, effect_of, Next, Return, Flag, More, next_of, branch_next, called_effect, word_effect, shape_after, keep, push_loop, text_word, turn_word, of_effect}
 use Rattle.depth_certifier.specs.Certificate.{after, no_interval, dropped, doubles, Limits}
 
 -- the place, the join of the LEAVEs of the loop around it, the effect so far, and the heads of the loops so far
@@ -199,8 +199,8 @@ module _ (limits : Limits) (known : Known) (given : Option (List (ℤ × ℤ))) 
     pub item_walk : Option Shape → Next → Node → Walk → Walked
     item_walk top next (Literal value) w = takes limits (table_effect table.Literal) keep w
     item_walk top next (Plain word) w = word_walk (doubles next word) word w
-    item_walk top next (Call definition) w = takes limits (called next (effect_of known definition)) keep w
-    item_walk top next (Child definition address) w = then_do (takes limits (table_effect table.Literal) keep w) (takes limits (called next (effect_of known definition)) keep)
+    item_walk top next (Call definition) w = takes limits (called_effect next (effect_of known definition)) keep w
+    item_walk top next (Child definition address) w = then_do (takes limits (table_effect table.Literal) keep w) (takes limits (called_effect next (effect_of known definition)) keep)
     item_walk top next (Text kind address length) w = takes limits (table_effect (text_word kind)) keep w
     item_walk top next (If first second) w =
         then_do (decides limits w) (λ m.

@@ -12,11 +12,11 @@ use Rattle.depth_certifier.specs.Effects.{Known, Next, More, idle, table_effect,
 use Rattle.depth_certifier.specs.Certificate.{no_interval, SharedInterval, Limits, dropped}
 use Rattle.depth_certifier.specs.Walk.{Walk, Walked, then_do, takes, returns_to, joins, item_walk, walk, arms_walk}
 use Rattle.depth_certifier.specs.Place.{Place}
-use Rattle.depth_certifier.specs.Views.{exit_of, place_of, limits_of, shapes_of, HeadKeeps}
+use Rattle.depth_certifier.specs.Views.{exit_of, place_of_reach, limits_of, shapes_of, HeadKeeps}
 
 -- a walk with given heads notes none of its own
 abbrev pub walk_of : Walker → Walk
-walk_of w = record { place = place_of w.place; leaves = place_of w.leaves; need = w.need; peak = w.peak; back = w.back; exit = exit_of w.exit; heads = replicate w.count no_interval }
+walk_of w = record { place = place_of_reach w.place; leaves = place_of_reach w.leaves; need = w.need; peak = w.peak; back = w.back; exit = exit_of w.exit; heads = replicate w.count no_interval }
 
 -- a call does a step of the walk
 abbrev pub StepOf : Result (Unit {0}) CertCause → Walked → Walk → Type 0
@@ -44,12 +44,12 @@ abbrev pub items_step : Facts → List Effect → List (ℤ × ℤ) → Option E
 items_step facts effects heads top next nodes w = walk (limits_of facts.bounds) (known_by facts effects) (given_by facts.finding heads) (shapes_of top) next nodes w
 
 -- the last items of a case, and ENDCASE
-abbrev pub case_ends : Facts → List Effect → List (ℤ × ℤ) → Option Entries → Nodes → Walk → Walked
-case_ends facts effects heads top rest w = then_do (items_step facts effects heads top More rest w) (takes (limits_of facts.bounds) (table_effect EndCase) keep)
+abbrev pub case_end_walk : Facts → List Effect → List (ℤ × ℤ) → Option Entries → Nodes → Walk → Walked
+case_end_walk facts effects heads top rest w = then_do (items_step facts effects heads top More rest w) (takes (limits_of facts.bounds) (table_effect EndCase) keep)
 
 -- the arms of a case, and its end
 abbrev pub arms_step : Facts → List Effect → List (ℤ × ℤ) → Option Entries → Next → Arms → Nodes → Walk → Walked
-arms_step facts effects heads top next arms rest w = arms_walk (limits_of facts.bounds) (known_by facts effects) (given_by facts.finding heads) (shapes_of top) next arms (case_ends facts effects heads top rest) w
+arms_step facts effects heads top next arms rest w = arms_walk (limits_of facts.bounds) (known_by facts effects) (given_by facts.finding heads) (shapes_of top) next arms (case_end_walk facts effects heads top rest) w
 
 -- the LEAVEs of a loop join its end, and it is taken off, in a loop with these LEAVEs
 abbrev pub drops_loop : Place → Walk → Walked

@@ -4,7 +4,7 @@ ghost use Rattle.depth_certifier.specs.Certificate.{dropped};
 ghost use Rattle.depth_certifier.specs.Entries.{entries_of, older_of};
 ghost use Rattle.depth_certifier.specs.Effects.{turn_word as word_of_turn};
 ghost use Rattle.depth_certifier.specs.Walk.{shape_at};
-ghost use Rattle.depth_certifier.specs.Views.{place_of, shapes_of, limits_of};
+ghost use Rattle.depth_certifier.specs.Views.{place_of_reach, shapes_of, limits_of};
 ghost use Rattle.depth_certifier.specs.Notes.{walk_in};
 ghost use Rattle.depth_certifier.specs.Walks.{StepOf, drops_loop, closes, query_drops, query_closes};
 
@@ -26,7 +26,7 @@ pub(crate) fn turn_word(plus: bool) -> Word
 
 /// The entries of a loop's head.
 pub(crate) fn entries_at(head: Reach) -> Option<Entries>
-    ensures { shapes_of result ≡ shape_at (place_of head) }
+    ensures { shapes_of result ≡ shape_at (place_of_reach head) }
 {
     match head {
         Reach::At(spot) => Some(spot.entries),
@@ -48,7 +48,7 @@ fn spot_below(spot: Spot) -> Spot
 
 // The place after a loop.
 fn without_loop(place: Reach) -> Reach
-    ensures { place_of result ≡ dropped (place_of place) }
+    ensures { place_of_reach result ≡ dropped (place_of_reach place) }
 {
     match place {
         Reach::Unreachable => Reach::Unreachable,
@@ -64,7 +64,7 @@ fn drop_loop(
     facts: Facts,
     outer: Reach,
 ) -> Result<(), CertCause>
-    ensures step { StepOf result (drops_loop (place_of outer) (walk_in facts.finding notes.now walker.old)) (walk_in facts.finding notes.now walker.new) }
+    ensures step { StepOf result (drops_loop (place_of_reach outer) (walk_in facts.finding notes.now walker.old)) (walk_in facts.finding notes.now walker.new) }
     ensures count { OnOk result (walker.new.count ≡ walker.old.count) }
 {
     let leaves = walker.leaves;
@@ -83,7 +83,7 @@ pub(crate) fn close_loop(
     head: Reach,
     outer: Reach,
 ) -> Result<(), CertCause>
-    ensures step { StepOf result (closes (limits_of facts.bounds) turn (place_of head) (place_of outer) (walk_in facts.finding notes.now walker.old)) (walk_in facts.finding notes.now walker.new) }
+    ensures step { StepOf result (closes (limits_of facts.bounds) turn (place_of_reach head) (place_of_reach outer) (walk_in facts.finding notes.now walker.old)) (walk_in facts.finding notes.now walker.new) }
     ensures count { OnOk result (walker.new.count ≡ walker.old.count) }
 {
     take(walker, notes, facts, table_demand(turn), EntryChange::Keep)?;
@@ -99,7 +99,7 @@ fn drop_query_loop(
     began: Reach,
     outer: Reach,
 ) -> Result<(), CertCause>
-    ensures step { StepOf result (query_drops (place_of began) (place_of outer) (walk_in facts.finding notes.now walker.old)) (walk_in facts.finding notes.now walker.new) }
+    ensures step { StepOf result (query_drops (place_of_reach began) (place_of_reach outer) (walk_in facts.finding notes.now walker.old)) (walk_in facts.finding notes.now walker.new) }
     ensures count { OnOk result (walker.new.count ≡ walker.old.count) }
 {
     join(walker, notes, facts, began)?;
@@ -116,7 +116,7 @@ pub(crate) fn close_query_loop(
     began: Reach,
     outer: Reach,
 ) -> Result<(), CertCause>
-    ensures step { StepOf result (query_closes (limits_of facts.bounds) turn (place_of head) (place_of began) (place_of outer) (walk_in facts.finding notes.now walker.old)) (walk_in facts.finding notes.now walker.new) }
+    ensures step { StepOf result (query_closes (limits_of facts.bounds) turn (place_of_reach head) (place_of_reach began) (place_of_reach outer) (walk_in facts.finding notes.now walker.old)) (walk_in facts.finding notes.now walker.new) }
     ensures count { OnOk result (walker.new.count ≡ walker.old.count) }
 {
     take(walker, notes, facts, table_demand(turn), EntryChange::Keep)?;

@@ -1,7 +1,7 @@
 // What items demand.
 ghost use Rattle.std.specs.Prelude.{◌≡◌, ℕ, ◌<◌, ◌≤ℤ◌, ◌+ℤ◌, ◌-ℤ◌, pos, negsuc, slice_index_or};
 ghost use Rattle.depth_certifier.specs.Certificate.{SharedInterval};
-ghost use Rattle.depth_certifier.specs.Effects.{table_effect, of_effect, execute_effect, word_effect, called, child_effect, idle, moved_by};
+ghost use Rattle.depth_certifier.specs.Effects.{table_effect, of_effect, execute_effect, word_effect, called_effect, child_effect, idle, moved_by};
 ghost use Rattle.depth_certifier.specs.Rounds.{token_effect};
 ghost use Rattle.forth_program.specs.Parts.{token_node};
 ghost use Rattle.depth_certifier.specs.Views.{exit_of, effect_of_demand, SmallExit};
@@ -87,7 +87,7 @@ pub(crate) fn definition(effects: &[Effect], id: DefId) -> Effect
 // The return cell of a call.
 fn with_return(x: Demand, next: Next) -> Demand
     requires { x.back < 1000 }
-    ensures { effect_of_demand result ≡ called next (effect_of_demand x) }
+    ensures { effect_of_demand result ≡ called_effect next (effect_of_demand x) }
 {
     let more = match next {
         Next::Return => 0,
@@ -105,7 +105,7 @@ fn with_return(x: Demand, next: Next) -> Demand
 /// The effect of a call.
 pub(crate) fn call_demand(effects: &[Effect], id: DefId, next: Next) -> Demand
     requires { (d : ℕ) → SharedInterval (slice_index_or effects.now d idle).exit }
-    ensures { effect_of_demand result ≡ called next (slice_index_or effects.now id.0 idle) }
+    ensures { effect_of_demand result ≡ called_effect next (slice_index_or effects.now id.0 idle) }
 {
     let effect = definition(effects, id);
     with_return(demand_of(effect), next)

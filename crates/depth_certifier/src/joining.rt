@@ -4,7 +4,7 @@ ghost use Rattle.std.specs.Int.{int_max, int_min};
 ghost use Rattle.depth_certifier.specs.Place.{moved, At};
 ghost use Rattle.depth_certifier.specs.Entries.{entries_of};
 ghost use Rattle.depth_certifier.specs.Walk.{decides, double_at, zero_way as way_of_zero, hull, with_exit, ends, joins, leaving, returns_to, shape_at};
-ghost use Rattle.depth_certifier.specs.Views.{exit_of, stand_of, place_of, limits_of, shapes_of};
+ghost use Rattle.depth_certifier.specs.Views.{exit_of, stand_of, place_of_reach, limits_of, shapes_of};
 ghost use Rattle.depth_certifier.specs.Walks.{walk_of, StepOf};
 
 use crate::demands::table_demand;
@@ -29,7 +29,7 @@ fn lowered(query: Query) -> Spot
 
 /// The way of a flag where it is zero, by the places before it and on the other way.
 pub(crate) fn zero_way(from: Reach, on_true: Reach) -> Reach
-    ensures { place_of result ≡ way_of_zero (place_of from) (place_of on_true) }
+    ensures { place_of_reach result ≡ way_of_zero (place_of_reach from) (place_of_reach on_true) }
 {
     match from {
         Reach::Doubled(query) => Reach::At(lowered(query)),
@@ -133,7 +133,7 @@ impl Walker {
 
     /// Another place joins the present one.
     pub(crate) fn join(&mut self, other: Reach) -> Result<(), CertCause>
-        ensures { StepOf result (joins (place_of other) (walk_of self.old)) (walk_of self.new) }
+        ensures { StepOf result (joins (place_of_reach other) (walk_of self.old)) (walk_of self.new) }
     {
         match (other, self.place) {
             (Reach::Unreachable, _) => Ok(()),
@@ -187,7 +187,7 @@ impl Walker {
 
     /// The back edge of a loop has the entries of its head, and lies inside it.
     pub(crate) fn go_back(&mut self, head: Reach) -> Result<(), CertCause>
-        ensures { StepOf result (returns_to (place_of head) (walk_of self.old)) (walk_of self.new) }
+        ensures { StepOf result (returns_to (place_of_reach head) (walk_of self.old)) (walk_of self.new) }
     {
         match (head, self.place) {
             (_, Reach::Unreachable) => Ok(()),

@@ -1,7 +1,7 @@
 // The steps of a walk that notes the heads of loops, or has them given.
 ghost use Rattle.std.specs.Prelude.{◌≡◌, ◌+◌, ◌<◌, ◌≤ℤ◌, pos, negsuc, OnOk, None, length, true};
 ghost use Rattle.depth_certifier.specs.Walk.{decides, double_at, ends, enters, joins, leaving, noting, returns_to, takes};
-ghost use Rattle.depth_certifier.specs.Views.{effect_of_demand, place_of, change_of, limits_of, shapes_of};
+ghost use Rattle.depth_certifier.specs.Views.{effect_of_demand, place_of_reach, change_of, limits_of, shapes_of};
 ghost use Rattle.depth_certifier.specs.Walks.{StepOf, HeadsKeep, given_by};
 ghost use Rattle.depth_certifier.specs.Notes.{walk_in, RoomFor};
 
@@ -56,7 +56,7 @@ pub(crate) fn join(
     facts: Facts,
     other: Reach,
 ) -> Result<(), CertCause>
-    ensures step { StepOf result (joins (place_of other) (walk_in facts.finding notes.now walker.old)) (walk_in facts.finding notes.now walker.new) }
+    ensures step { StepOf result (joins (place_of_reach other) (walk_in facts.finding notes.now walker.old)) (walk_in facts.finding notes.now walker.new) }
     ensures count { OnOk result (walker.new.count ≡ walker.old.count) }
 {
     walker.join(other)
@@ -82,7 +82,7 @@ pub(crate) fn go_back(
     facts: Facts,
     head: Reach,
 ) -> Result<(), CertCause>
-    ensures step { StepOf result (returns_to (place_of head) (walk_in facts.finding notes.now walker.old)) (walk_in facts.finding notes.now walker.new) }
+    ensures step { StepOf result (returns_to (place_of_reach head) (walk_in facts.finding notes.now walker.old)) (walk_in facts.finding notes.now walker.new) }
     ensures count { OnOk result (walker.new.count ≡ walker.old.count) }
 {
     walker.go_back(head)
@@ -107,7 +107,7 @@ fn interval(spot: Spot) -> (i8, i8)
 // The head of the next loop is noted.
 fn note(walker: &mut Walker, notes: &mut [(i8, i8)], head: (i8, i8))
     requires { walker.old.count < length notes.old }
-    ensures value { walk_in true notes.new walker.new ≡ noting head (place_of walker.old.place) (walk_in true notes.old walker.old) }
+    ensures value { walk_in true notes.new walker.new ≡ noting head (place_of_reach walker.old.place) (walk_in true notes.old walker.old) }
     ensures count { walker.new.count ≡ walker.old.count + 1 }
     ensures length { length notes.new ≡ length notes.old }
 {

@@ -1,7 +1,7 @@
 // A round over the definitions of a program.
 ghost use Rattle.std.specs.Prelude.{◌≡◌, ◌+◌, ◌<◌, ◌≤◌, [], length, take, None, IfOk, slice_index_or};
 ghost use Rattle.forth_program.specs.Program.{body_of};
-ghost use Rattle.depth_certifier.specs.Certificate.{limits_of, loops, SharedInterval};
+ghost use Rattle.depth_certifier.specs.Certificate.{definition_limits, loops, SharedInterval};
 ghost use Rattle.depth_certifier.specs.Walk.{body_walk};
 ghost use Rattle.depth_certifier.specs.Rounds.{bodies_round, round as next_round};
 ghost use Rattle.depth_certifier.specs.Walks.{EffectsKeep, HeadsKeep};
@@ -30,7 +30,7 @@ fn make_definition(
     requires shared { SharedInterval shared.exit }
     requires room { count + loops (body_of program.now id.0) ≤ length notes.old }
     requires heads { HeadsKeep (take count notes.old) }
-    ensures made { MadeOf result notes.new (body_walk (limits_of program.now id.0) (record { definitions = effects.now; shared = shared }) None (body_of program.now id.0) (take count notes.old)) }
+    ensures made { MadeOf result notes.new (body_walk (definition_limits program.now id.0) (record { definitions = effects.now; shared = shared }) None (body_of program.now id.0) (take count notes.old)) }
     ensures count { IfOk result (λ made. made.1 ≡ count + loops (body_of program.now id.0)) }
     ensures length { length notes.new ≡ length notes.old }
 {
@@ -55,7 +55,7 @@ fn make_definitions(
     requires shared { SharedInterval shared.exit }
     requires next { length next.old ≡ length program.now.bodies }
     requires notes { length notes.old ≡ all_loops program.now.bodies }
-    ensures bodies { BodiesOf result next.new notes.new (bodies_round (limits_of program.now) (record { definitions = effects.now; shared = shared }) program.now.bodies 0 []) }
+    ensures bodies { BodiesOf result next.new notes.new (bodies_round (definition_limits program.now) (record { definitions = effects.now; shared = shared }) program.now.bodies 0 []) }
     ensures next { length next.new ≡ length next.old }
     ensures notes { length notes.new ≡ length notes.old }
 {

@@ -1,7 +1,7 @@
 // The certificate that the rounds come to.
 ghost use Rattle.std.specs.Prelude.{◌≡◌, ◌↔◌, ℕ, ◌<◌, true, length, IfOk, IfErr};
 ghost use Rattle.depth_certifier.specs.Certificate.{Cert, IsValid};
-ghost use Rattle.depth_certifier.specs.Rounds.{bottoms, IsLeast, Refuses};
+ghost use Rattle.depth_certifier.specs.Rounds.{bottoms, IsLeast, RoundsRefuse};
 ghost use Rattle.depth_certifier.specs.Counting.{all_loops, CountIs};
 ghost use Rattle.depth_certifier.specs.Settling.{Settles, IsRefusal};
 ghost use Rattle.depth_certifier.specs.declared.refused.CertError.TheVariants.{OutOfMemory};
@@ -100,7 +100,7 @@ impl From<AllocError> for CertError {
 /// and as much again, and taken before the rounds.
 pub fn certify(alloc: Global, program: &Program) -> Result<Certificate, CertError>
     ensures least { IfOk result (λ z. IsLeast program.now z) }
-    ensures refused { IfErr result (λ e. IsRefusal e (λ r. Refuses program.now r)) }
+    ensures refused { IfErr result (λ e. IsRefusal e (λ r. RoundsRefuse program.now r)) }
     ensures named { IfErr result (λ e. IsRefusal e (λ r. r.definition < length program.now.bodies)) }
     ensures none { IfErr result (λ e. IsRefusal e (λ _. (z : Cert) → IsValid program.now z → ⊥)) }
 {

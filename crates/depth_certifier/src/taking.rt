@@ -4,7 +4,7 @@ ghost use Rattle.depth_certifier.specs.Place.{size, from_zero, At, Doubled};
 ghost use Rattle.depth_certifier.specs.Entries.{entries_of};
 ghost use Rattle.depth_certifier.specs.Certificate.{after};
 ghost use Rattle.depth_certifier.specs.Walk.{in_limits, need_at as due, peak_at as rise, take_with, takes, double_at as doubled_at};
-ghost use Rattle.depth_certifier.specs.Views.{back_with, sizes_of, exit_of, effect_of_demand, stand_of, place_of, change_of, limits_of, EntriesAre};
+ghost use Rattle.depth_certifier.specs.Views.{back_with, sizes_of, exit_of, effect_of_demand, stand_of, place_of_reach, change_of, limits_of, EntriesAre};
 ghost use Rattle.depth_certifier.specs.Walks.{walk_of, StepOf};
 
 use crate::changes::changed;
@@ -78,7 +78,7 @@ fn moved(spot: Spot, change: Change, entries: Entries) -> Spot
 fn leads(spot: Spot, exit: Option<Change>, entries: Entries) -> Reach
     requires stays { in_limits (after (exit_of exit) (stand_of spot) (stand_of spot).shape) ≡ true }
     requires small { size (entries_of entries) ≤ 31 }
-    ensures { place_of result ≡ after (exit_of exit) (stand_of spot) (entries_of entries) }
+    ensures { place_of_reach result ≡ after (exit_of exit) (stand_of spot) (entries_of entries) }
 {
     match exit {
         None => Reach::Unreachable,
@@ -140,7 +140,7 @@ impl Walker {
 
     /// A `?DUP` before a flag.
     pub(crate) fn double(&mut self, bounds: Bounds) -> Result<(), CertCause>
-        ensures { StepOf result (doubled_at (limits_of bounds) (place_of self.old.place) (walk_of self.old)) (walk_of self.new) }
+        ensures { StepOf result (doubled_at (limits_of bounds) (place_of_reach self.old.place) (walk_of self.old)) (walk_of self.new) }
     {
         match self.place {
             Reach::Unreachable => Ok(()),

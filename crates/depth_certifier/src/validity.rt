@@ -2,14 +2,14 @@
 ghost use Rattle.std.specs.Prelude.{◌≡◌, ◌+◌, ◌↔◌, ℕ, IfOk, length, true, false, Some, None, [], replicate};
 ghost use Rattle.std.specs.List.{All, list_all};
 ghost use Rattle.forth_program.specs.ItemTrees.{tree_of};
-ghost use Rattle.depth_certifier.specs.Certificate.{limits_of as limits_for, loops, no_interval, known_of, SharedInterval, IsValid};
+ghost use Rattle.depth_certifier.specs.Certificate.{definition_limits as limits_for, loops, no_interval, known_of, SharedInterval, IsValid};
 ghost use Rattle.depth_certifier.specs.Walk.{body_walk};
 ghost use Rattle.depth_certifier.specs.Rounds.{token_effect, ProperToken};
 ghost use Rattle.depth_certifier.specs.Checking.{effect_in, effect_keeps as kept_effect, bodies_check, is_valid};
 ghost use Rattle.depth_certifier.specs.Views.{limits_of};
 ghost use Rattle.depth_certifier.specs.Walks.{walk_of, known_by, given_by, EffectsKeep, HeadsKeep};
 ghost use Rattle.depth_certifier.specs.Notes.{heads_of, RoomFor};
-ghost use Rattle.depth_certifier.specs.Bodies.{begun, BodyOf, BodyHolds};
+ghost use Rattle.depth_certifier.specs.Bodies.{walk_start, BodyOf, BodyHolds};
 
 use crate::certificate::Certificate;
 use crate::comparing::{are_ordered, demand_in, effect_keeps, heads_keep, is_ordered, made_in};
@@ -48,7 +48,7 @@ pub(crate) fn bounds_of(program: &Program, id: DefId) -> Bounds
 
 // The walk before a body, after so many loops.
 fn begin(count: usize) -> Walker
-    ensures walk { walk_of result ≡ begun count }
+    ensures walk { walk_of result ≡ walk_start count }
     ensures count { result.count ≡ count }
 {
     let entries = Entries::none();

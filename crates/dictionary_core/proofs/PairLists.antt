@@ -4,7 +4,7 @@ use Rattle.std.specs.Prelude.{slice_get}
 use Rattle.std.proofs.lemmas.List.{take_at, take-take}
 use Rattle.forth_reader.specs.NameList.{NameList}
 use Rattle.dictionary_core.specs.declared.chain.Entry.{Entry}
-use Rattle.dictionary_core.specs.Buckets.{has_bucket, is_name, place_behind, last_place, number_of_names}
+use Rattle.dictionary_core.specs.Buckets.{has_bucket, is_same_name, place_behind, last_place, number_of_names}
 use Rattle.dictionary_core.specs.Pairs.{Pair, DictionaryState, pair, names_of, newest_value}
 use Rattle.dictionary_core.specs.Chains.{pairs_in}
 
@@ -41,23 +41,23 @@ module _ {V : Type 0} where
     seen_length = ap (λ (d : DictionaryState V). length d.pairs) (sym is) ∙ pairs_length names entries as_many
 
   abbrev value_by : (name asked : List ℕ) (value : V) → Option V → Option V
-  value_by name asked value found = elim found [ Some v ↦ Some v | None ↦ elim (is_name asked name) [ true ↦ Some value | false ↦ None ] ]
+  value_by name asked value found = elim found [ Some v ↦ Some v | None ↦ elim (is_same_name asked name) [ true ↦ Some value | false ↦ None ] ]
 
-  none_here : (asked n : List ℕ) (x : Entry V) (ns : List (List ℕ)) (xs : List (Entry V)) → (last_place (is_name asked) ns ≡ None → newest_value (pairs_in ns xs) asked ≡ None) →
-      (t : Bool) (o : Option ℕ) → is_name asked n ≡ t → last_place (is_name asked) ns ≡ o → place_behind t o ≡ None → newest_value (pair n x.value ∷ pairs_in ns xs) asked ≡ None
+  none_here : (asked n : List ℕ) (x : Entry V) (ns : List (List ℕ)) (xs : List (Entry V)) → (last_place (is_same_name asked) ns ≡ None → newest_value (pairs_in ns xs) asked ≡ None) →
+      (t : Bool) (o : Option ℕ) → is_same_name asked n ≡ t → last_place (is_same_name asked) ns ≡ o → place_behind t o ≡ None → newest_value (pair n x.value ∷ pairs_in ns xs) asked ≡ None
   none_here asked n x ns xs more t (Some j) p f g = absurd cc
   none_here asked n x ns xs more true None p f g = absurd cc
   none_here asked n x ns xs more false None p f g = ap (value_by n asked x.value) (more f) ∙ ap (λ b. elim b as (λ b. Option V) [ true ↦ Some x.value | false ↦ None ]) p
 
   -- no name is the one that is asked
-  pub none_newest : (asked : List ℕ) (names : List (List ℕ)) (entries : List (Entry V)) → length entries ≡ length names → last_place (is_name asked) names ≡ None → newest_value (pairs_in names entries) asked ≡ None
+  pub none_newest : (asked : List ℕ) (names : List (List ℕ)) (entries : List (Entry V)) → length entries ≡ length names → last_place (is_same_name asked) names ≡ None → newest_value (pairs_in names entries) asked ≡ None
   none_newest asked [] entries e f = refl
   none_newest asked (n ∷ ns) [] e f = absurd (omega arith)
-  none_newest asked (n ∷ ns) (x ∷ xs) e f = none_here asked n x ns xs (none_newest asked ns xs (omega arith)) (is_name asked n) (last_place (is_name asked) ns) refl refl f
+  none_newest asked (n ∷ ns) (x ∷ xs) e f = none_here asked n x ns xs (none_newest asked ns xs (omega arith)) (is_same_name asked n) (last_place (is_same_name asked) ns) refl refl f
 
-  some_here : (asked n : List ℕ) (x : Entry V) (ns : List (List ℕ)) (xs : List (Entry V)) (k : ℕ) (entry : Entry V) → (last_place (is_name asked) ns ≡ None → newest_value (pairs_in ns xs) asked ≡ None) →
-      ((j : ℕ) → last_place (is_name asked) ns ≡ Some j → slice_get xs j ≡ Some entry → newest_value (pairs_in ns xs) asked ≡ Some entry.value) →
-      (t : Bool) (o : Option ℕ) → is_name asked n ≡ t → last_place (is_name asked) ns ≡ o → place_behind t o ≡ Some k → slice_get (x ∷ xs) k ≡ Some entry → newest_value (pair n x.value ∷ pairs_in ns xs) asked ≡ Some entry.value
+  some_here : (asked n : List ℕ) (x : Entry V) (ns : List (List ℕ)) (xs : List (Entry V)) (k : ℕ) (entry : Entry V) → (last_place (is_same_name asked) ns ≡ None → newest_value (pairs_in ns xs) asked ≡ None) →
+      ((j : ℕ) → last_place (is_same_name asked) ns ≡ Some j → slice_get xs j ≡ Some entry → newest_value (pairs_in ns xs) asked ≡ Some entry.value) →
+      (t : Bool) (o : Option ℕ) → is_same_name asked n ≡ t → last_place (is_same_name asked) ns ≡ o → place_behind t o ≡ Some k → slice_get (x ∷ xs) k ≡ Some entry → newest_value (pair n x.value ∷ pairs_in ns xs) asked ≡ Some entry.value
   some_here asked n x ns xs k entry none more t (Some j) p f g h =
       let m : suc j ≡ k = cc in
       ap (value_by n asked x.value) (more j f (ap (slice_get (x ∷ xs)) m ∙ h))
@@ -69,11 +69,11 @@ module _ {V : Type 0} where
   some_here asked n x ns xs k entry none more false None p f g h = absurd cc
 
   -- the value of the last name that is the one
-  pub some_newest : (asked : List ℕ) (names : List (List ℕ)) (entries : List (Entry V)) (k : ℕ) (entry : Entry V) → length entries ≡ length names → last_place (is_name asked) names ≡ Some k → slice_get entries k ≡ Some entry → newest_value (pairs_in names entries) asked ≡ Some entry.value
+  pub some_newest : (asked : List ℕ) (names : List (List ℕ)) (entries : List (Entry V)) (k : ℕ) (entry : Entry V) → length entries ≡ length names → last_place (is_same_name asked) names ≡ Some k → slice_get entries k ≡ Some entry → newest_value (pairs_in names entries) asked ≡ Some entry.value
   some_newest asked [] entries k entry e f h = absurd cc
   some_newest asked (n ∷ ns) [] k entry e f h = absurd (omega arith)
   some_newest asked (n ∷ ns) (x ∷ xs) k entry e f h =
-      some_here asked n x ns xs k entry (none_newest asked ns xs (omega arith)) (λ j g i. some_newest asked ns xs j entry (omega arith) g i) (is_name asked n) (last_place (is_name asked) ns) refl refl f h
+      some_here asked n x ns xs k entry (none_newest asked ns xs (omega arith)) (λ j g i. some_newest asked ns xs j entry (omega arith) g i) (is_same_name asked n) (last_place (is_same_name asked) ns) refl refl f h
 
   -- the dictionary of names and entries
   abbrev pub state_of : NameList → List (Entry V) → DictionaryState V
@@ -87,10 +87,10 @@ module _ {V : Type 0} where
       ∙ ap (λ (d : DictionaryState V). record d { pairs = d.pairs ++ pair name entry.value ∷ [] }) is
 
   -- the value that is found, or that there is none
-  pub seen_none : (names : NameList) (entries : List (Entry V)) (seen : DictionaryState V) (asked : List ℕ) → state_of names entries ≡ seen → length entries ≡ length names.names → last_place (is_name asked) names.names ≡ None → newest_value seen.pairs asked ≡ None
+  pub seen_none : (names : NameList) (entries : List (Entry V)) (seen : DictionaryState V) (asked : List ℕ) → state_of names entries ≡ seen → length entries ≡ length names.names → last_place (is_same_name asked) names.names ≡ None → newest_value seen.pairs asked ≡ None
   seen_none names entries seen asked is as_many e = ap (λ (d : DictionaryState V). newest_value d.pairs asked) (sym is) ∙ none_newest asked names.names entries as_many e
 
-  pub seen_some : (names : NameList) (entries : List (Entry V)) (seen : DictionaryState V) (asked : List ℕ) (k : ℕ) (entry : Entry V) → state_of names entries ≡ seen → length entries ≡ length names.names → last_place (is_name asked) names.names ≡ Some k →
+  pub seen_some : (names : NameList) (entries : List (Entry V)) (seen : DictionaryState V) (asked : List ℕ) (k : ℕ) (entry : Entry V) → state_of names entries ≡ seen → length entries ≡ length names.names → last_place (is_same_name asked) names.names ≡ Some k →
       slice_get entries k ≡ Some entry → newest_value seen.pairs asked ≡ Some entry.value
   seen_some names entries seen asked k entry is as_many e f = ap (λ (d : DictionaryState V). newest_value d.pairs asked) (sym is) ∙ some_newest asked names.names entries k entry as_many e f
 
@@ -123,9 +123,9 @@ module _ {V : Type 0} where
   pub seen_pairs : (names : NameList) (present : List (List ℕ)) (entries : List (Entry V)) (seen : DictionaryState V) → state_of names entries ≡ seen → present ≡ names.names → pairs_in present entries ≡ seen.pairs
   seen_pairs names present entries seen is e = ap (λ ns. pairs_in ns entries) e ∙ ap (λ (d : DictionaryState V). d.pairs) is
 
-  pub seen_place : (names : NameList) (entries : List (Entry V)) (seen : DictionaryState V) (asked : List ℕ) (found : Option ℕ) → state_of names entries ≡ seen → length entries ≡ length names.names → found ≡ last_place (is_name asked) names.names →
-      last_place (is_name asked) (names_of seen.pairs) ≡ found
-  seen_place names entries seen asked found is as_many e = ap (last_place (is_name asked)) (seen_names names.names entries names.looks seen is as_many) ∙ sym e
+  pub seen_place : (names : NameList) (entries : List (Entry V)) (seen : DictionaryState V) (asked : List ℕ) (found : Option ℕ) → state_of names entries ≡ seen → length entries ≡ length names.names → found ≡ last_place (is_same_name asked) names.names →
+      last_place (is_same_name asked) (names_of seen.pairs) ≡ found
+  seen_place names entries seen asked found is as_many e = ap (last_place (is_same_name asked)) (seen_names names.names entries names.looks seen is as_many) ∙ sym e
 
   pub state_cut : (old new : NameList) (entries : List (Entry V)) (kept : ℕ) (seen : DictionaryState V) → new ≡ record old { names = take kept old.names } → length entries ≡ kept → pairs_in old.names entries ≡ take (length entries) seen.pairs → old.looks ≡ seen.looks →
       state_of new entries ≡ record seen { pairs = take kept seen.pairs }

@@ -9,7 +9,7 @@ use Rattle.std.proofs.lemmas.List.{get_or-take, take-take, take_all, length-take
 use Rattle.std.proofs.lemmas.Slice.Eq.{bytes_eq-Decides}
 use Rattle.forth_reader.specs.Number.{raised_letter}
 use Rattle.dictionary_core.specs.declared.chain.Entry.{Entry}
-use Rattle.dictionary_core.specs.Buckets.{raised_sum, bucket, has_bucket, is_name, last_place, last_in, number_of_names}
+use Rattle.dictionary_core.specs.Buckets.{raised_sum, bucket, has_bucket, is_same_name, last_place, last_in, number_of_names}
 use Rattle.dictionary_core.specs.Chains.{IsEntry}
 use Rattle.dictionary_core.proofs.Last.{last_within, none_of, At, at_last}
 
@@ -22,7 +22,7 @@ sum_lower : (bytes : List ℕ) → raised_sum (map to_ascii_lowercase bytes) ≡
 sum_lower [] = refl
 sum_lower (c ∷ cs) = omega (arith, raised_lower c, sum_lower cs)
 
-pub same_bucket : (asked name : List ℕ) → is_name asked name ≡ true → has_bucket (bucket asked) name ≡ true
+pub same_bucket : (asked name : List ℕ) → is_same_name asked name ≡ true → has_bucket (bucket asked) name ≡ true
 same_bucket asked name e =
     let lowered : str_to_ascii_lowercase name ≡ str_to_ascii_lowercase asked = (bytes_eq-Decides (str_to_ascii_lowercase name) (str_to_ascii_lowercase asked)).0 e in
     let sums : raised_sum name ≡ raised_sum asked = sym (sum_lower name) ∙ ap raised_sum lowered ∙ sum_lower asked in
@@ -36,7 +36,7 @@ pub record Walk (asked : List ℕ) (names present : List (List ℕ)) (at : Optio
   pub within : upto ≤ length names
   pub names_are : present ≡ names
   pub at_is : at ≡ last_in (bucket asked) (take upto names)
-  pub same : last_place (is_name asked) (take upto names) ≡ last_place (is_name asked) names
+  pub same : last_place (is_same_name asked) (take upto names) ≡ last_place (is_same_name asked) names
   pub risen : start ≤ looks
   pub looked : looks + number_of_names (has_bucket (bucket asked)) (take upto names) ≤ start + number_of_names (has_bucket (bucket asked)) names
 
@@ -48,14 +48,14 @@ walk_starts asked names head looks e =
       within = omega arith;
       names_are = refl;
       at_is = e ∙ ap (last_in (bucket asked)) (sym whole);
-      same = ap (last_place (is_name asked)) whole;
+      same = ap (last_place (is_same_name asked)) whole;
       risen = omega arith;
       looked = omega (arith, ap (number_of_names (has_bucket (bucket asked))) whole);
     }
 
 module _ (asked : List ℕ) (names present : List (List ℕ)) (at : Option ℕ) (looks start : ℕ) (w : Walk asked names present at looks start) where
-  pub walk_ends : at ≡ None → last_place (is_name asked) names ≡ None
-  walk_ends e = sym w.same ∙ none_of (has_bucket (bucket asked)) (is_name asked) (same_bucket asked) (take w.upto names) (sym w.at_is ∙ e)
+  pub walk_ends : at ≡ None → last_place (is_same_name asked) names ≡ None
+  walk_ends e = sym w.same ∙ none_of (has_bucket (bucket asked)) (is_same_name asked) (same_bucket asked) (take w.upto names) (sym w.at_is ∙ e)
 
   module _ (place : ℕ) (here : at ≡ Some place) where
     last_is : last_in (bucket asked) (take w.upto names) ≡ Some place
@@ -67,16 +67,16 @@ module _ (asked : List ℕ) (names present : List (List ℕ)) (at : Option ℕ) 
     pub walk_within : place < length names
     walk_within = omega (arith, before, w.within)
 
-    found : At (has_bucket (bucket asked)) (is_name asked) (same_bucket asked) (take w.upto names) place
-    found = at_last (has_bucket (bucket asked)) (is_name asked) (same_bucket asked) (take w.upto names) place last_is
+    found : At (has_bucket (bucket asked)) (is_same_name asked) (same_bucket asked) (take w.upto names) place
+    found = at_last (has_bucket (bucket asked)) (is_same_name asked) (same_bucket asked) (take w.upto names) place last_is
 
     name_is : slice_index_or (take w.upto names) place [] ≡ slice_index_or names place []
     name_is = get_or-take w.upto names place [] before
 
-    asked_is : (t : Bool) → str_eq_ignore_ascii_case (slice_index_or present place []) asked ≡ t → is_name asked (slice_index_or (take w.upto names) place []) ≡ t
-    asked_is t e = ap (is_name asked) name_is ∙ ap (λ ns. is_name asked (slice_index_or ns place [])) (sym w.names_are) ∙ e
+    asked_is : (t : Bool) → str_eq_ignore_ascii_case (slice_index_or present place []) asked ≡ t → is_same_name asked (slice_index_or (take w.upto names) place []) ≡ t
+    asked_is t e = ap (is_same_name asked) name_is ∙ ap (λ ns. is_same_name asked (slice_index_or ns place [])) (sym w.names_are) ∙ e
 
-    pub walk_hits : str_eq_ignore_ascii_case (slice_index_or present place []) asked ≡ true → last_place (is_name asked) names ≡ Some place
+    pub walk_hits : str_eq_ignore_ascii_case (slice_index_or present place []) asked ≡ true → last_place (is_same_name asked) names ≡ Some place
     walk_hits e = sym w.same ∙ found.hit (asked_is true e)
 
     pub walk_looked : (more : ℕ) → more ≤ looks + 1 → more ≤ start + number_of_names (has_bucket (bucket asked)) names
@@ -92,7 +92,7 @@ module _ (asked : List ℕ) (names present : List (List ℕ)) (at : Option ℕ) 
           within = omega (arith, walk_within);
           names_are = same_names ∙ w.names_are;
           at_is = e.older_is ∙ ap (λ b. last_in b (take place names)) bucket_is;
-          same = ap (last_place (is_name asked)) (sym shorter) ∙ sym (found.miss (asked_is false miss)) ∙ w.same;
+          same = ap (last_place (is_same_name asked)) (sym shorter) ∙ sym (found.miss (asked_is false miss)) ∙ w.same;
           risen = omega (arith, up, w.risen);
           looked = omega (arith, h, w.looked, found.counted, ap (number_of_names (has_bucket (bucket asked))) shorter);
         }

@@ -16,8 +16,8 @@ abbrev pub has_bucket : ℕ → List ℕ → Bool
 has_bucket b name = bucket name == b
 
 -- whether it is the name that is asked, letters without case
-abbrev pub is_name : List ℕ → List ℕ → Bool
-is_name asked name = str_eq_ignore_ascii_case name asked
+abbrev pub is_same_name : List ℕ → List ℕ → Bool
+is_same_name asked name = str_eq_ignore_ascii_case name asked
 
 -- one name in front: the last that passes stands a place further on, or it is this one, or there is none
 abbrev pub place_behind : Bool → Option ℕ → Option ℕ

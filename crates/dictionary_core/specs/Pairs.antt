@@ -1,6 +1,6 @@
 -- A dictionary as contracts see it: pairs of a name and a value, oldest first.
 use Rattle.std.specs.Prelude.{ℕ, true, false, List, [], ◌∷◌, Option, Some, None}
-use Rattle.dictionary_core.specs.Buckets.{is_name}
+use Rattle.dictionary_core.specs.Buckets.{is_same_name}
 
 pub record Pair (V : Type 0) : Type 0 where
   pub name : List ℕ
@@ -23,5 +23,5 @@ abbrev pub newest_value : {V : Type 0} → List (Pair V) → List ℕ → Option
 newest_value [] asked = None
 newest_value (p ∷ ps) asked = elim (newest_value ps asked) [
   | Some value ↦ Some value
-  | None ↦ elim (is_name asked p.name) [ true ↦ Some p.value | false ↦ None ]
+  | None ↦ elim (is_same_name asked p.name) [ true ↦ Some p.value | false ↦ None ]
 ]

@@ -1,7 +1,7 @@
 // Entries that are linked bucket by bucket, and the walk along a chain.
 ghost use Rattle.std.specs.Prelude.{◌≡◌, ℕ, ◌+◌, ◌≤◌, length, slice_get, Some};
 ghost use Rattle.dictionary_core.specs.declared.chain.Entry.{Entry as EntryOf};
-ghost use Rattle.dictionary_core.specs.Buckets.{bucket, has_bucket, is_name, last_in, last_place, number_of_names};
+ghost use Rattle.dictionary_core.specs.Buckets.{bucket, has_bucket, is_same_name, last_in, last_place, number_of_names};
 ghost use Rattle.dictionary_core.specs.Chains.{IsEntry};
 
 use forth_reader::Names;
@@ -25,7 +25,7 @@ pub(crate) fn place_in_chain<V>(
     requires few { length entries.now ≤ 512 }
     requires linked { (place : ℕ) (entry : EntryOf V) → slice_get entries.now place ≡ Some entry → IsEntry names.old.names place entry }
     requires head { head ≡ last_in (bucket name.now) names.old.names }
-    ensures place { result ≡ last_place (is_name name.now) names.old.names }
+    ensures place { result ≡ last_place (is_same_name name.now) names.old.names }
     ensures names { names.new.names ≡ names.old.names }
     ensures risen { names.old.looks ≤ names.new.looks }
     ensures looks { names.new.looks ≤ names.old.looks + number_of_names (has_bucket (bucket name.now)) names.old.names }

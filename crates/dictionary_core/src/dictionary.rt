@@ -1,8 +1,8 @@
 // Dictionaries.
 ghost use Rattle.std.specs.Prelude.{◌≡◌, ◌<◌, ◌≤◌, ◌↔◌, ◌++◌, [], ◌∷◌, length, take, slice_index_or, IfOk, IfErr, OnOk, OnErr, MatchOption, ◌+◌, Some, None};
 ghost use Rattle.std.specs.Borrow.{sem};
-ghost use Rattle.forth_reader.specs.ReaderState.{IsToken};
-ghost use Rattle.dictionary_core.specs.Buckets.{bucket, has_bucket, is_name, last_in, last_place, number_of_names};
+ghost use Rattle.forth_reader.specs.Name.{IsName};
+ghost use Rattle.dictionary_core.specs.Buckets.{bucket, has_bucket, is_same_name, last_in, last_place, number_of_names};
 
 use crate::bucket::bucket_of;
 use crate::chain::{Entry, place_in_chain};
@@ -101,7 +101,7 @@ impl<V: Drop> Dictionary<V> {
     /// Puts a pair at the end, and gives its place. Full comes exactly where there are 512 pairs. A refusal changes nothing and
     /// hands the value back.
     pub fn add(&mut self, name: &str, value: V) -> Result<u32, (AddRefusal, V)>
-        requires { IsToken name.now }
+        requires { IsName name.now }
         ensures ok { IfOk result (λ place. (place ≡ length self.old.pairs) × (self.new ≡ record self.old { pairs = self.old.pairs ++ pair name.now value ∷ [] })) }
         ensures room { OnOk result (length self.old.pairs < 512) }
         ensures full { IfErr result (λ e. (e.0 ≡ AddRefusal.Full) ↔ (length self.old.pairs ≡ 512)) }
@@ -153,8 +153,8 @@ impl<V: Drop> Dictionary<V> {
     pub fn find(&mut self, name: &str) -> Option<(u32, &V)>
         ensures* keeps { sem 𝓛 (keeps_pairs V.row self.entry (number_of_names (has_bucket (bucket name.now)) (names_of self.old.pairs))) }
         ensures found { MatchOption result
-            (last_place (is_name name.now) (names_of self.old.pairs) ≡ None)
-            (λ found. (last_place (is_name name.now) (names_of self.old.pairs) ≡ Some found.0) × (newest_value self.old.pairs name.now ≡ Some found.1.now)) }
+            (last_place (is_same_name name.now) (names_of self.old.pairs) ≡ None)
+            (λ found. (last_place (is_same_name name.now) (names_of self.old.pairs) ≡ Some found.0) × (newest_value self.old.pairs name.now ≡ Some found.1.now)) }
     {
         let head = self.heads[bucket_of(name) as usize];
         let place = place_in_chain(&mut self.names, self.entries.as_slice(), head, name)?;

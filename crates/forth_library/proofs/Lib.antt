@@ -1,4 +1,4 @@
-pub mod Standing
+pub mod LibraryForm
 pub mod Meaning
-pub mod Reading
+pub mod ReadDefinitions
 pub mod Certified

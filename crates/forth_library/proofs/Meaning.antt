@@ -7,7 +7,7 @@ use Rattle.word_table.specs.Table.{entry_of}
 use Rattle.forth_program.specs.Tree.{Nodes, Empty}
 use Rattle.forth_program.specs.State.{Work, World, State}
 use Rattle.forth_program.specs.Program.{SourceProgram}
-use Rattle.forth_program.specs.Step.{First, BodyEnd, first}
+use Rattle.forth_program.specs.Step.{First, BodyEnd, first_work}
 use Rattle.forth_program.specs.Price.{word_price}
 use Rattle.forth_program.specs.Cells.{AreCells, IsWorld}
 use Rattle.forth_program.specs.Heights.{step_peak}
@@ -16,8 +16,8 @@ use Rattle.library_laws.specs.Library as laws
 use Rattle.library_laws.specs.Library.{DoesItsMeaning, DefinitionsDoTheirMeaning, TypeIsCheap}
 use Rattle.code_layout.specs.Numbering.{library_number}
 use Rattle.forth_program.specs.Heights.{peak_of}
-use Rattle.code_layout.specs.Library.{TakesNoMore, BodyMeans, LibraryMeans, routine_price}
-use Rattle.forth_library.proofs.Standing.{body_at, stands, defined_at, is_defined}
+use Rattle.code_layout.specs.Library.{BodyTakesNoMore, BodyMeans, LibraryMeans, routine_price}
+use Rattle.forth_library.proofs.LibraryForm.{body_at, stands, defined_at, is_defined}
 
 same_peak : (f : First) → peak_of [] f ≡ step_peak f
 same_peak BodyEnd = refl
@@ -26,10 +26,10 @@ same_peak f = refl
 busy : (t : State) (work : Work) (after : List Work) → t.work ≡ work ∷ after → t.work ≢ []
 busy t work after e none = let no : ⊥ = cc in absurd no
 
-takes : (word : Word) (begins : ℕ) (t : State) → laws.TakesNoMore word begins [] t → TakesNoMore word begins t
+takes : (word : Word) (begins : ℕ) (t : State) → laws.TakesNoMore word begins [] t → BodyTakesNoMore word begins t
 takes word begins t h = record {
   busy = busy t h.work h.after h.busy;
-  cells = subst (λ n. length t.cells + n ≤ begins + (entry_of word).peak) (sym (same_peak (first t.work))) h.cells;
+  cells = subst (λ n. length t.cells + n ≤ begins + (entry_of word).peak) (sym (same_peak (first_work t.work))) h.cells;
   returns = h.returns;
 }
 

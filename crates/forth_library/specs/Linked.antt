@@ -5,13 +5,13 @@ use Rattle.library_laws.specs.Bodies.{whole_library}
 use Rattle.code_layout.specs.Layout.{laid_out}
 use Rattle.code_layout.specs.Built.{IsBuilt}
 use Rattle.forth_program.specs.Form.{calls_go_back}
-use Rattle.forth_program.specs.Heights.{StacksFit, GoesWell}
-use Rattle.code_layout.specs.Agreement.{AreBytes, DoesAsMuch, DoesNoMore, word_steps}
+use Rattle.forth_program.specs.Heights.{StacksFit, IsSafe}
+use Rattle.code_layout.specs.Agreement.{AreBytes, ForwardSimulation, BackwardSimulation, word_steps}
 use Rattle.code_layout.specs.Chip.{AgreesOnChip}
 use Rattle.code_layout.specs.LastCalls.{LastCalls, all_begin_well}
 
 pub record LinkedImagesAgree : Type 0 where
-  pub as_much : (p : SourceProgram) (input : List ℕ) (k : ℕ) → IsBuilt whole_library p → AreBytes p.first_space → AreBytes input → GoesWell p input k → DoesAsMuch whole_library p input k
-  pub no_more : (p : SourceProgram) (input : List ℕ) (n : ℕ) → IsBuilt whole_library p → AreBytes p.first_space → AreBytes input → GoesWell p input (word_steps p n) → DoesNoMore whole_library p input n
-  pub on_chip : (p : SourceProgram) (input : List ℕ) → IsBuilt whole_library p → AreBytes p.first_space → AreBytes input → ((k : ℕ) → GoesWell p input k) → ((k : ℕ) → StacksFit p input 33 32 k) → AgreesOnChip whole_library p input
+  pub forward : (p : SourceProgram) (input : List ℕ) (k : ℕ) → IsBuilt whole_library p → AreBytes p.first_space → AreBytes input → IsSafe p input k → ForwardSimulation whole_library p input k
+  pub backward : (p : SourceProgram) (input : List ℕ) (n : ℕ) → IsBuilt whole_library p → AreBytes p.first_space → AreBytes input → IsSafe p input (word_steps p n) → BackwardSimulation whole_library p input n
+  pub on_chip : (p : SourceProgram) (input : List ℕ) → IsBuilt whole_library p → AreBytes p.first_space → AreBytes input → ((k : ℕ) → IsSafe p input k) → ((k : ℕ) → StacksFit p input 33 32 k) → AgreesOnChip whole_library p input
   pub last_calls : (p : SourceProgram) → IsBuilt whole_library p → calls_go_back 0 p.bodies ≡ true → all_begin_well p ≡ true → LastCalls (laid_out whole_library p).cells

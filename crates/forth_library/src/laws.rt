@@ -6,7 +6,7 @@ ghost use Rattle.library_laws.specs.Bodies.{whole_library};
 ghost use Rattle.code_layout.specs.Layout.{bodies_size};
 ghost use Rattle.code_layout.specs.LastCalls.{begins_well};
 ghost use Rattle.code_layout.specs.Library.{IsLibrary, LibraryMeans};
-ghost use Rattle.control_flow.specs.Outcome.{Fine};
+ghost use Rattle.control_flow.specs.ParseResult.{Fine};
 ghost use Rattle.control_flow.specs.SourceText.{program_of_text};
 ghost use Rattle.forth_library.specs.Certified.{LibraryIsCertified};
 ghost use Rattle.forth_library.specs.Definitions.{library_definitions, library_text};

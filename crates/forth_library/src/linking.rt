@@ -1,6 +1,6 @@
 // The library as a program, and images with it.
 ghost use Rattle.std.specs.Prelude.{◌≡◌, ◌<◌, ◌≤◌, ◌-◌, ◌++◌, length, take, IfOk};
-ghost use Rattle.control_flow.specs.Outcome.{Fine};
+ghost use Rattle.control_flow.specs.ParseResult.{Fine};
 ghost use Rattle.control_flow.specs.SourceText.{program_of_text};
 ghost use Rattle.library_laws.specs.Bodies.{whole_library};
 ghost use Rattle.code_layout.specs.Built.{IsBuilt};

@@ -11,7 +11,7 @@ use Rattle.forth_program.specs.State.{Entry, Cell, Loop, Work, Frame, World, Sta
 use Rattle.forth_program.specs.Program.{SourceProgram, token_of}
 use Rattle.forth_program.specs.ByteWords.{type_out}
 use Rattle.forth_program.specs.Meaning.{meaning}
-use Rattle.forth_program.specs.Step.{First, BodyEnd, IsLiteral, IsWord, IsCall, IsChild, IsText, IsIf, IsTrueEnd, IsUntil, IsWhile, IsRepeat, IsAgain, IsDo, IsQDo, IsTurn, IsOf, IsEndOf, IsEndCase, IsLeave, IsExit, first, on_cells, with_token, word_step, text_step, left, on_flag, loop_begins, loop_may_begin, of_chooses, case_ends, crosses, turned, turn, leave, act, step}
+use Rattle.forth_program.specs.Step.{First, BodyEnd, IsLiteral, IsWord, IsCall, IsChild, IsText, IsIf, IsTrueEnd, IsUntil, IsWhile, IsRepeat, IsAgain, IsDo, IsQDo, IsTurn, IsOf, IsEndOf, IsEndCase, IsLeave, IsExit, first_work, on_cells, with_token, word_step, text_step, unwound, on_flag, loop_begins, loop_may_begin, of_chooses, case_ends, crosses, turned, turn, leave, act, step}
 use Rattle.forth_program.specs.Run.{and_then, steps, world_of}
 use Rattle.forth_program.specs.RunLaws.{IsLater}
 use Rattle.forth_program.proofs.WordGrowth.{same, later_later, after, bind, type_later, meaning_later}
@@ -57,7 +57,7 @@ text_later text.Abort address size (zero ∷ c) s = same s.world
 text_later text.Abort address size (suc n ∷ c) s =
     cells_later (type_out size address s.world ▸ λ _. Stops (Halted 2)) s (bind s.world (type_out size address s.world) _ (type_later size address s.world) (λ _ w. same w))
 
-left_later : (entries : List Entry) (callers : List Frame) (s : State) → IsLater s.world (world_of (left entries callers s))
+left_later : (entries : List Entry) (callers : List Frame) (s : State) → IsLater s.world (world_of (unwound entries callers s))
 left_later (entry ∷ entries) callers s = same s.world
 left_later [] [] s = same s.world
 left_later [] (frame ∷ callers) s = same s.world
@@ -130,7 +130,7 @@ act_later p (IsLeave work) s = leave_later work s.entries s
 
 step_later : (p : SourceProgram) (s : State) → IsLater s.world (world_of (step p s))
 unfolding step
-step_later p s = act_later p (first s.work) s
+step_later p s = act_later p (first_work s.work) s
 
 then_later : (w : World) (o : Outcome) (next : State → Outcome) → IsLater w (world_of o) → ((s : State) → IsLater s.world (world_of (next s))) → IsLater w (world_of (and_then o next))
 then_later w (Goes s) next h each = later_later w s.world (world_of (next s)) h (each s)

@@ -1,5 +1,5 @@
 -- What holds of each program.
-use Rattle.std.specs.Prelude.{◌≡◌, ℕ, suc, ◌-◌, ◌%◌, ◌<◌, ◌≤◌, nat_lt, Bool, true, false, ◌&&◌, List, [], ◌∷◌, length, IsTrue}
+use Rattle.std.specs.Prelude.{◌≡◌, ℕ, suc, ◌-◌, ◌<◌, ◌≤◌, nat_lt, Bool, true, false, ◌&&◌, List, [], ◌∷◌, length, IsTrue}
 use Rattle.std.specs.List.{list_all}
 use Rattle.word_table.specs.declared.word.Word.TheVariants.{ToR, RFrom, RFetch, Index, OuterIndex, Unloop, Execute}
 use Rattle.word_table.specs.declared.word.Class.{Class}
@@ -7,12 +7,7 @@ use Rattle.word_table.specs.declared.word.Class.TheVariants as class
 use Rattle.word_table.specs.Table.{entry_of}
 use Rattle.forth_program.specs.Tree.{Node, Nodes, Arms, Plain, Call, Child, If, Until, While, Again, Do, QDo, Case, Leave, Empty, Then, NoArm, Arm}
 use Rattle.forth_program.specs.Program.{SourceProgram}
-
--- a byte address at which data space may begin
-pub record IsDataStart (data_start : ℕ) : Type 0 where
-  pub is_even : data_start % 2 ≡ 0
-  pub at_least : 4096 ≤ data_start
-  pub at_most : data_start ≤ 16000
+use Rattle.console_ports.specs.DataSpace.{IsDataStart}
 
 -- whether a test holds of every item, also in structures
 abbrev mutual

@@ -8,7 +8,7 @@ use Rattle.forth_program.specs.declared.item.TextKind.{TextKind}
 use Rattle.forth_program.specs.declared.item.TextKind.TheVariants as text
 use Rattle.forth_program.specs.State.{Entry, Cell, Loop, Work, Frame, State, Goes}
 use Rattle.forth_program.specs.Program.{SourceProgram, token_of}
-use Rattle.forth_program.specs.Step.{First, BodyEnd, IsLiteral, IsWord, IsChild, IsText, IsDo, IsQDo, IsTurn, IsOf, IsLeave, IsExit, first_in, first}
+use Rattle.forth_program.specs.Step.{First, BodyEnd, IsLiteral, IsWord, IsChild, IsText, IsDo, IsQDo, IsTurn, IsOf, IsLeave, IsExit, first_in, first_work}
 use Rattle.forth_program.specs.Tail.{ends_body}
 use Rattle.forth_program.specs.Run.{steps, source_run, lacks}
 
@@ -91,13 +91,13 @@ execute_back p first c = 0
 abbrev pub StepsFit : SourceProgram → ℕ → ℕ → ℕ → State → Type 0
 StepsFit p high return_high k s =
     (j : ℕ) (t : State) → j < k → steps p j s ≡ Goes t →
-    (length t.cells + peak_of t.callers (first t.work) ≤ high) × (return_height t + back_of (first t.work) ≤ return_high) × (return_height t + execute_back p (first t.work) t.cells ≤ return_high)
+    (length t.cells + peak_of t.callers (first_work t.work) ≤ high) × (return_height t + back_of (first_work t.work) ≤ return_high) × (return_height t + execute_back p (first_work t.work) t.cells ≤ return_high)
 
 -- and so do those of a run
 abbrev pub StacksFit : SourceProgram → List ℕ → ℕ → ℕ → ℕ → Type 0
 StacksFit p input high return_high k =
     (j : ℕ) (s : State) → j < k → source_run p input j ≡ Goes s →
-    (length s.cells + peak_of s.callers (first s.work) ≤ high) × (return_height s + back_of (first s.work) ≤ return_high) × (return_height s + execute_back p (first s.work) s.cells ≤ return_high)
+    (length s.cells + peak_of s.callers (first_work s.work) ≤ high) × (return_height s + back_of (first_work s.work) ≤ return_high) × (return_height s + execute_back p (first_work s.work) s.cells ≤ return_high)
 
 -- DEPTH counts at most 31 data cells: its code reads a pointer of five bits
 abbrev pub DepthFits : First → List ℕ → Type 0
@@ -106,9 +106,9 @@ DepthFits first c = Unit {0}
 
 -- in each of the first k steps from a state
 abbrev pub DepthsFit : SourceProgram → ℕ → State → Type 0
-DepthsFit p k s = (j : ℕ) (t : State) → j < k → steps p j s ≡ Goes t → DepthFits (first t.work) t.cells
+DepthsFit p k s = (j : ℕ) (t : State) → j < k → steps p j s ≡ Goes t → DepthFits (first_work t.work) t.cells
 
 -- within k word steps a run lacks no cells and finds its return entries, and DEPTH counts at most 31 cells
-pub record GoesWell (p : SourceProgram) (input : List ℕ) (k : ℕ) : Type 0 where
+pub record IsSafe (p : SourceProgram) (input : List ℕ) (k : ℕ) : Type 0 where
   pub lacks_nothing : lacks (source_run p input k) ≡ false
-  pub depth_fits : (j : ℕ) (s : State) → j < k → source_run p input j ≡ Goes s → DepthFits (first s.work) s.cells
+  pub depth_fits : (j : ℕ) (s : State) → j < k → source_run p input j ≡ Goes s → DepthFits (first_work s.work) s.cells

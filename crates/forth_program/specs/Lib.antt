@@ -16,7 +16,6 @@ pub mod Weight
 pub mod RunLaws
 pub mod ItemTrees
 pub mod TreeLaws
-pub mod Name
 pub mod Parts
 pub mod Form
 pub mod TreeCode

@@ -10,7 +10,7 @@ use Rattle.forth_program.specs.State.{World, State, Outcome, Goes, Ends}
 use Rattle.forth_program.specs.Access.{base}
 use Rattle.forth_program.specs.ByteWords.{positive, accept_begins, number_begins, begun_by}
 use Rattle.forth_program.specs.Program.{SourceProgram}
-use Rattle.forth_program.specs.Step.{First, IsLiteral, IsWord, IsChild, IsText, IsDo, IsQDo, IsTurn, IsOf, IsLeave, first, step}
+use Rattle.forth_program.specs.Step.{First, IsLiteral, IsWord, IsChild, IsText, IsDo, IsQDo, IsTurn, IsOf, IsLeave, first_work, step}
 use Rattle.forth_program.specs.Run.{first_state}
 
 -- how often a word does what it is priced for: the whole count, and for input and numbers the bytes begun
@@ -55,7 +55,7 @@ first_price first c w = 1
 
 -- of the next step
 abbrev pub step_price : State → ℕ
-step_price s = first_price (first s.work) s.cells s.world
+step_price s = first_price (first_work s.work) s.cells s.world
 
 -- after a step at which so much was spent in all
 abbrev pub spent_after : ℕ → Outcome → (State → ℕ) → ℕ

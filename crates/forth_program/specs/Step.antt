@@ -71,18 +71,18 @@ abbrev mutual
   first_of_case (Arm tests body others) rest else_first after = first_among tests (IsOf body others rest after) (OfTest body others rest ∷ after)
 
 -- the first of the work
-abbrev pub first : List Work → First
-first [] = BodyEnd
-first (Todo node ∷ after) = first_in node after
-first (TrueEnd ∷ after) = IsTrueEnd after
-first (UntilTest body ∷ after) = IsUntil body after
-first (WhileTest test body ∷ after) = IsWhile test body after
-first (Repeat test body ∷ after) = IsRepeat test body after
-first (BeginAgain body ∷ after) = IsAgain body after
-first (Turn body plus ∷ after) = IsTurn body plus after
-first (OfTest body others rest ∷ after) = IsOf body others rest after
-first (EndOf ∷ after) = IsEndOf after
-first (EndCase ∷ after) = IsEndCase after
+abbrev pub first_work : List Work → First
+first_work [] = BodyEnd
+first_work (Todo node ∷ after) = first_in node after
+first_work (TrueEnd ∷ after) = IsTrueEnd after
+first_work (UntilTest body ∷ after) = IsUntil body after
+first_work (WhileTest test body ∷ after) = IsWhile test body after
+first_work (Repeat test body ∷ after) = IsRepeat test body after
+first_work (BeginAgain body ∷ after) = IsAgain body after
+first_work (Turn body plus ∷ after) = IsTurn body plus after
+first_work (OfTest body others rest ∷ after) = IsOf body others rest after
+first_work (EndOf ∷ after) = IsEndOf after
+first_work (EndCase ∷ after) = IsEndCase after
 
 -- ---- words
 
@@ -133,10 +133,10 @@ called p definition s = record s {
 }
 
 -- the end of a body: no return entry may be left; the frame below goes on, and the last frame ends the run
-abbrev pub left : List Entry → List Frame → State → Outcome
-left (entry ∷ entries) callers s = Ends Unbalanced s.world
-left [] [] s = Ends (Halted 0) s.world
-left [] (frame ∷ callers) s = Goes (record s { work = frame.work; entries = frame.entries; callers = callers })
+abbrev pub unwound : List Entry → List Frame → State → Outcome
+unwound (entry ∷ entries) callers s = Ends Unbalanced s.world
+unwound [] [] s = Ends (Halted 0) s.world
+unwound [] (frame ∷ callers) s = Goes (record s { work = frame.work; entries = frame.entries; callers = callers })
 
 -- ---- structures
 
@@ -207,8 +207,8 @@ leave after entries s = Ends Unbalanced s.world
 
 -- what the first work does; at one step too few cells come before a wrong return entry
 abbrev pub act : SourceProgram → First → State → Outcome
-act p BodyEnd s = left s.entries s.callers s
-act p IsExit s = left s.entries s.callers s
+act p BodyEnd s = unwound s.entries s.callers s
+act p IsExit s = unwound s.entries s.callers s
 act p (IsLiteral value after) s = Goes (record s { work = after; cells = value ∷ s.cells })
 act p (IsWord word after) s = word_step p word s.cells s.entries (record s { work = after })
 act p (IsCall definition after) s = Goes (called p definition (record s { work = after }))
@@ -230,4 +230,4 @@ act p (IsLeave after) s = leave after s.entries s
 
 -- one word step
 unfoldable pub step : SourceProgram → State → Outcome
-step p s = act p (first s.work) s
+step p s = act p (first_work s.work) s

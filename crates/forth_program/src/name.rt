@@ -12,7 +12,7 @@ pub struct Name {
 
 impl Model for Name {
     ghost use Rattle.std.specs.Prelude.{ℕ, List};
-    ghost use Rattle.forth_program.specs.Name.{IsName};
+    ghost use Rattle.forth_reader.specs.Name.{IsName};
 
     ghost Value = { List ℕ };
 
@@ -22,7 +22,7 @@ impl Model for Name {
 }
 
 impl Name {
-    ghost use Rattle.forth_program.specs.Name.{IsName};
+    ghost use Rattle.forth_reader.specs.Name.{IsName};
 
     /// The name of this text. It is None exactly where the text has no byte, more than 31 bytes or a byte outside 33 to 126.
     pub fn new(text: &str) -> Option<Name>

@@ -1,8 +1,9 @@
 // Programs, and the parts from which one is made.
 ghost use Rattle.std.specs.Prelude.{◌≡◌, ◌-◌, ◌<◌, ◌≤◌, map, length, slice_index_or, [], IfOk};
-ghost use Rattle.forth_program.specs.Form.{IsDataStart, IsProgram};
+ghost use Rattle.forth_program.specs.Form.{IsProgram};
+ghost use Rattle.console_ports.specs.DataSpace.{IsDataStart};
 ghost use Rattle.forth_program.specs.ItemTrees.{tree_of};
-ghost use Rattle.forth_program.specs.Name.{IsName};
+ghost use Rattle.forth_reader.specs.Name.{IsName};
 ghost use Rattle.forth_program.specs.Parts.{program_of, token_node};
 ghost use Rattle.forth_program.specs.Program.{body_of, uses_depth as depth_is_used};
 

@@ -5,8 +5,8 @@ use Rattle.forth_reader.specs.declared.refusal.ReadCause.TheVariants as cause
 use Rattle.forth_reader.specs.Bytes.{is_blank}
 use Rattle.forth_reader.specs.Reading.{Reading, NoMore, Reads, Refuses, StringReading, Quoted, Unquoted, may_follow_token, next_from, name_from, string_from}
 use Rattle.forth_reader.specs.Splitting.{IsBadByte, is_parenthesis_byte, is_line_byte, IsCommentText, Piece, Blank, Parenthesis, Line, ArePieces, pieces_then, tokens_behind, RunIs, is_read, is_too_long, meets_bad_byte, NameAt, NextAt, nothing, last_line, bad_byte, bad_in_line, bad_in_parenthesis, open_parenthesis, run, NameIs, NextIs, StringIs}
-use Rattle.forth_reader.specs.ReaderState.{ReaderState, unless_failed, unless_failed_string, next_reading, name_reading, string_reading, Took, TookString}
-use Rattle.forth_reader.specs.TokenList.{PlacedToken, TokensEnd, AllRead, Faulty, Kind, Plain, OpensComment, OpensLine, BeforeString, kind_of, is_string_word, Passes, Fails, Behind, plain, comment, open_comment, bad_in_comment, line, line_at_end, bad_line, string, bad_string, IsTokenAt, EndIs, all_read, refused, fails_behind, AreTokensFrom, started, NoneNamed, lone_token, Given, by_name, by_next, by_string, Gave, Stopped, no_next, no_name, next_refused, name_refused, string_refused, is_comment_kind, without_comments, CallsGiveTokens}
+use Rattle.forth_reader.specs.ReaderState.{ReaderState, unless_failed, unless_failed_string, next_reading, name_reading, string_reading, TookToken, TookString}
+use Rattle.forth_reader.specs.TokenList.{PlacedToken, TokensEnd, AllRead, Faulty, Kind, OrdinaryToken, OpensComment, OpensLine, BeforeString, kind_of, is_string_word, Passes, Fails, Behind, plain, comment, open_comment, bad_in_comment, line, line_at_end, bad_line, string, bad_string, IsTokenAt, EndIs, all_read, refused, fails_behind, AreTokensFrom, reader_start, NoneNamed, lone_token, Given, by_name, by_next, by_string, Gave, GaveNoToken, no_next, no_name, next_refused, name_refused, string_refused, is_comment_kind, without_comments, CallsGiveTokens}
 use Rattle.forth_reader.proofs.ReadingToSplitting.{next_exists, name_exists, string_exists, name_alone, name_behind}
 use Rattle.forth_reader.proofs.TokenKinds.{kind_is}
 use Rattle.forth_reader.proofs.TokenLists.{run_rest, no_more_is, behind_shorter}
@@ -120,18 +120,18 @@ module _ (named : ℕ → Bool) (size : ℕ) where
     same = ap (λ x. elim x [ true ↦ without_comments named is.all | false ↦ t ∷ without_comments named is.all ]) none ∙ ap (λ l. t ∷ l) is.same;
   }
 
-  string_kind_plain : (is_string : Bool) → is_comment_kind (elim is_string [ true ↦ BeforeString | false ↦ Plain ]) ≡ false
+  string_kind_plain : (is_string : Bool) → is_comment_kind (elim is_string [ true ↦ BeforeString | false ↦ OrdinaryToken ]) ≡ false
   string_kind_plain true = refl
   string_kind_plain false = refl
 
   -- `next` gave it, and what belongs to it was read
   next_token : (k : ℕ) (text token : List ℕ) (start number : ℕ) (behind : List ℕ) (is_string : Bool) (quoted : Option (List ℕ)) (rest : List ℕ) (tokens : List PlacedToken) (end : TokensEnd) →
       NextIs k text (Reads token number behind) → NoneNamed named k number → length text ≤ size → start + length token + length behind ≡ size → is_string_word token ≡ is_string →
-      Behind (elim is_string [ true ↦ BeforeString | false ↦ Plain ]) behind (Passes [] quoted rest) → Listed number rest tokens end → Listed k text (lone_token token start number quoted ∷ tokens) end
+      Behind (elim is_string [ true ↦ BeforeString | false ↦ OrdinaryToken ]) behind (Passes [] quoted rest) → Listed number rest tokens end → Listed k text (lone_token token start number quoted ∷ tokens) end
   next_token k text token start number behind is_string quoted rest tokens end is free small starts e stands more =
       let at : IsRead (tokens_behind k is.pieces) is.rest token number behind = next_run is.stands in
       let own : named number ≡ false = free number (omega (arith, at.number_is, further k is.pieces)) (omega arith) in
-      let kind : kind_of (named number) token ≡ elim is_string [ true ↦ BeforeString | false ↦ Plain ] = ap (λ n. kind_of n token) own ∙ kind_is token is_string at.no_comment at.no_line e in
+      let kind : kind_of (named number) token ≡ elim is_string [ true ↦ BeforeString | false ↦ OrdinaryToken ] = ap (λ n. kind_of n token) own ∙ kind_is token is_string at.no_comment at.no_line e in
       let here : Listed (tokens_behind k is.pieces) is.rest (lone_token token start number quoted ∷ tokens) end =
       token_first (tokens_behind k is.pieces) is.rest (lone_token token start number quoted) behind rest tokens end (name_alone at.reads) starts
       (subst (λ x. Behind x behind (Passes [] quoted rest)) (sym kind) stands) (ap is_comment_kind kind ∙ string_kind_plain is_string) more in
@@ -221,7 +221,7 @@ module _ (named : ℕ → Bool) (size : ℕ) where
     reads_string : (reading : StringReading) → string_reading state ≡ reading → StringIs state.rest reading
     reads_string reading e = subst (StringIs state.rest) (sym (ap (λ f. unless_failed_string f (string_from state.rest)) s.sound) ∙ e) (string_exists state.rest)
 
-    after_token : {new : ReaderState} {reading : Reading} {token : List ℕ} {start number : ℕ} → Took state new reading token start number → IsSound new
+    after_token : {new : ReaderState} {reading : Reading} {token : List ℕ} {start number : ℕ} → TookToken state new reading token start number → IsSound new
     after_token took = record {
       sound = ap (λ (x : ReaderState). x.failed) took.new_is ∙ s.sound;
       text = ap (λ (x : ReaderState). length x.text) took.new_is ∙ s.text;
@@ -235,7 +235,7 @@ module _ (named : ℕ → Bool) (size : ℕ) where
       small = short;
     }
 
-    counted : {new : ReaderState} {reading : Reading} {token : List ℕ} {start number : ℕ} → Took state new reading token start number → new.count ≡ number
+    counted : {new : ReaderState} {reading : Reading} {token : List ℕ} {start number : ℕ} → TookToken state new reading token start number → new.count ≡ number
     counted took = ap (λ (x : ReaderState). x.count) took.new_is
 
   -- `next` gave a string word, and its string is refused
@@ -250,7 +250,7 @@ module _ (named : ℕ → Bool) (size : ℕ) where
       subst (λ l. Listed k l [] (Faulty number c)) (sym is.text_is)
       (pieces_first k is.pieces is.rest [] (Faulty number c) is.are_pieces (λ n above below. free n above (omega (arith, at.number_is, below))) (omega (arith, small, ap length is.text_is)) here)
 
-  stopped_listed : (state : ReaderState) (end : TokensEnd) → IsSound state → Stopped named state end → Listed state.count state.rest [] end
+  stopped_listed : (state : ReaderState) (end : TokensEnd) → IsSound state → GaveNoToken named state end → Listed state.count state.rest [] end
   stopped_listed state end s (no_next new free ended) = next_ends state.count state.rest new.count (reads_next state s (NoMore new.count) ended.reading_is) free s.small
   stopped_listed state end s (no_name new ended) =
       let is : NameIs state.count state.rest (NoMore new.count) = reads_name state s (NoMore new.count) ended.reading_is in
@@ -270,7 +270,7 @@ module _ (named : ℕ → Bool) (size : ℕ) where
   given_listed : (before between : ReaderState) (t : PlacedToken) (tokens : List PlacedToken) (end : TokensEnd) → IsSound before → Given named before between t →
       (IsSound between → Listed between.count between.rest tokens end) → Listed before.count before.rest (t ∷ tokens) end
   given_listed before between t tokens end s (by_name token start number own took) more =
-      let kind : kind_of (named number) token ≡ Plain = ap (λ n. kind_of n token) own in
+      let kind : kind_of (named number) token ≡ OrdinaryToken = ap (λ n. kind_of n token) own in
       token_first before.count before.rest (lone_token token start number None) between.rest between.rest tokens end (reads_name before s (Reads token number between.rest) took.reading_is) (took.starts ∙ s.text)
       (subst (λ x. Behind x between.rest (Passes [] None between.rest)) (sym kind) (plain between.rest)) (ap is_comment_kind kind)
       (subst (λ n. Listed n between.rest tokens end) (counted before s took) (more (after_token before s took)))
@@ -285,11 +285,11 @@ module _ (named : ℕ → Bool) (size : ℕ) where
       next_token before.count before.rest token start number mid.rest true (Some text) between.rest tokens end (reads_next before s (Reads token number mid.rest) took.reading_is) free s.small (took.starts ∙ s.text) word
       stands (subst (λ n. Listed n between.rest tokens end) count (more (after_string mid m quoted (omega (arith, m.small, behind_shorter stands)))))
 
-  gave_listed : (before after : ReaderState) (tokens : List PlacedToken) (end : TokensEnd) → IsSound before → Gave named before tokens after → Stopped named after end → Listed before.count before.rest tokens end
-  gave_listed before after [] end s gave stopped = stopped_listed before end s (subst (λ x. Stopped named x end) (sym gave) stopped)
+  gave_listed : (before after : ReaderState) (tokens : List PlacedToken) (end : TokensEnd) → IsSound before → Gave named before tokens after → GaveNoToken named after end → Listed before.count before.rest tokens end
+  gave_listed before after [] end s gave stopped = stopped_listed before end s (subst (λ x. GaveNoToken named x end) (sym gave) stopped)
   gave_listed before after (t ∷ tokens) end s gave stopped = given_listed before (gave.0) t tokens end s (gave.1.0) (λ sound. gave_listed (gave.0) after tokens end sound (gave.1.1) stopped)
 
 pub calls_give_tokens : CallsGiveTokens
 calls_give_tokens named text tokens after end gave stopped =
-    let is : Listed named (length text) 0 text tokens end = gave_listed named (length text) (started text) after tokens end (record { sound = refl; text = refl; small = omega arith }) gave stopped in
+    let is : Listed named (length text) 0 text tokens end = gave_listed named (length text) (reader_start text) after tokens end (record { sound = refl; text = refl; small = omega arith }) gave stopped in
     (is.all, (is.are, is.same))

@@ -4,7 +4,7 @@ use Rattle.std.specs.List.{All}
 use Rattle.std.proofs.Math.Seq.{take-append_seam}
 use Rattle.std.proofs.lemmas.List.Elements.{All-cons, All-nil}
 use Rattle.std.proofs.lemmas.Bool.Decides.{nat_tests}
-use Rattle.forth_reader.specs.ReaderState.{IsToken}
+use Rattle.forth_reader.specs.Name.{IsName}
 use Rattle.forth_reader.specs.Bytes.{is_graphic, is_source_byte, is_string_byte, passing_front, behind_front}
 use Rattle.forth_reader.specs.Reading.{ends_token}
 
@@ -79,7 +79,7 @@ front_graphic [] = All-nil (λ b. (33 ≤ b) × (b ≤ 126))
 front_graphic (b ∷ bs) = front_graphic_on b bs (is_graphic b) refl (front_graphic bs)
 
 -- graphic bytes in front, of which there are few, are a token
-pub front_is_token : (token bs : List ℕ) → token ≡ passing_front is_graphic bs → ends_token bs ≡ false → length token ≤ 31 → IsToken token
+pub front_is_token : (token bs : List ℕ) → token ≡ passing_front is_graphic bs → ends_token bs ≡ false → length token ≤ 31 → IsName token
 front_is_token token bs e begins short = record {
   some = omega (arith, ap length e, front_lengths is_graphic bs, behind_graphic_less bs begins);
   short = short;

@@ -7,7 +7,7 @@ use Rattle.forth_reader.specs.declared.refusal.ReadCause.TheVariants as cause
 use Rattle.forth_reader.specs.Bytes.{is_source_byte, passing_front, behind_front}
 use Rattle.forth_reader.specs.Reading.{StringReading, Quoted, Unquoted, string_from}
 use Rattle.forth_reader.specs.Splitting.{is_parenthesis_byte, is_line_byte, StringIs}
-use Rattle.forth_reader.specs.TokenList.{Kind, Plain, OpensComment, OpensLine, BeforeString, is_byte, is_string_word, kind_of, After, Passes, Fails, Behind, plain, comment, open_comment, bad_in_comment, line, line_at_end, bad_line, string, bad_string}
+use Rattle.forth_reader.specs.TokenList.{Kind, OrdinaryToken, OpensComment, OpensLine, BeforeString, is_byte, is_string_word, kind_of, After, Passes, Fails, Behind, plain, comment, open_comment, bad_in_comment, line, line_at_end, bad_line, string, bad_string}
 use Rattle.forth_reader.proofs.Fronts.{front_joined}
 use Rattle.forth_reader.proofs.Steps.{either, front_along, behind_along, front_passes, behind_fails}
 use Rattle.forth_reader.proofs.SplittingToReading.{equal_when, string_computed}
@@ -28,7 +28,7 @@ string_by (Quoted text rest) = Passes [] (Some text) rest
 string_by (Unquoted c) = Fails c
 
 abbrev pub after_of : Kind → List ℕ → After
-after_of Plain rest = Passes [] None rest
+after_of OrdinaryToken rest = Passes [] None rest
 after_of OpensComment rest = comment_by (passing_front is_parenthesis_byte rest) (behind_front is_parenthesis_byte rest)
 after_of OpensLine rest = line_by (passing_front is_line_byte rest) (behind_front is_line_byte rest)
 after_of BeforeString rest = string_by (string_from rest)
@@ -106,7 +106,7 @@ string_stands behind (Quoted text rest) is = string behind text rest is
 string_stands behind (Unquoted c) is = bad_string behind c is
 
 pub behind_exists : (kind : Kind) (rest : List ℕ) → Behind kind rest (after_of kind rest)
-behind_exists Plain rest = plain rest
+behind_exists OrdinaryToken rest = plain rest
 behind_exists OpensComment rest =
     subst (λ l. Behind OpensComment l (after_of OpensComment rest)) (front_joined is_parenthesis_byte rest)
     (comment_exists (passing_front is_parenthesis_byte rest) (behind_front is_parenthesis_byte rest) (front_passes is_parenthesis_byte rest) (behind_fails is_parenthesis_byte rest))
@@ -126,8 +126,8 @@ byte_alone byte (b ∷ []) other = elim (either (b == byte)) [
 byte_alone byte (b ∷ c ∷ bytes) other = refl
 
 -- a token that `next` gives opens no comment
-pub kind_is : (token : List ℕ) (is_string : Bool) → (token ≡ 40 ∷ [] → ⊥) → (token ≡ 92 ∷ [] → ⊥) → is_string_word token ≡ is_string → kind_of false token ≡ elim is_string [ true ↦ BeforeString | false ↦ Plain ]
+pub kind_is : (token : List ℕ) (is_string : Bool) → (token ≡ 40 ∷ [] → ⊥) → (token ≡ 92 ∷ [] → ⊥) → is_string_word token ≡ is_string → kind_of false token ≡ elim is_string [ true ↦ BeforeString | false ↦ OrdinaryToken ]
 kind_is token is_string p q e =
-    ap (λ t. elim t [ true ↦ OpensComment | false ↦ elim (is_byte 92 token) [ true ↦ OpensLine | false ↦ elim (is_string_word token) [ true ↦ BeforeString | false ↦ Plain ] ] ]) (byte_alone 40 token p)
-    ∙ ap (λ t. elim t [ true ↦ OpensLine | false ↦ elim (is_string_word token) [ true ↦ BeforeString | false ↦ Plain ] ]) (byte_alone 92 token q)
-    ∙ ap (λ t. elim t [ true ↦ BeforeString | false ↦ Plain ]) e
+    ap (λ t. elim t [ true ↦ OpensComment | false ↦ elim (is_byte 92 token) [ true ↦ OpensLine | false ↦ elim (is_string_word token) [ true ↦ BeforeString | false ↦ OrdinaryToken ] ] ]) (byte_alone 40 token p)
+    ∙ ap (λ t. elim t [ true ↦ OpensLine | false ↦ elim (is_string_word token) [ true ↦ BeforeString | false ↦ OrdinaryToken ] ]) (byte_alone 92 token q)
+    ∙ ap (λ t. elim t [ true ↦ BeforeString | false ↦ OrdinaryToken ]) e

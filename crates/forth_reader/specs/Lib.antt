@@ -1,4 +1,5 @@
 pub mod Bytes
+pub mod Name
 pub mod Reading
 pub mod ReaderState
 pub mod Number

@@ -1,6 +1,5 @@
 -- A reader as contracts see it, and what a call does to it.
 use Rattle.std.specs.Prelude.{◌≡◌, ℕ, ◌+◌, ◌<◌, ◌≤◌, List, [], length, Option, Some, None}
-use Rattle.std.specs.List.{All}
 use Rattle.forth_reader.specs.declared.refusal.ReadRefusal.{ReadRefusal}
 use Rattle.forth_reader.specs.Reading.{Reading, NoMore, Reads, Refuses, next_from, name_from, StringReading, Quoted, Unquoted, string_from}
 
@@ -43,19 +42,13 @@ string_reading state = unless_failed_string state.failed (string_from state.rest
 abbrev pub string_number : ReaderState → ℕ
 string_number state = elim state.failed [ None ↦ state.count | Some refusal ↦ refusal.token ]
 
--- 1 to 31 graphic bytes
-pub record IsToken (token : List ℕ) : Type 0 where
-  pub some : 0 < length token
-  pub short : length token ≤ 31
-  pub graphic : All (λ byte. (33 ≤ byte) × (byte ≤ 126)) token
-
 -- no token was left, and nothing is
 pub record Ended (old new : ReaderState) (reading : Reading) : Type 0 where
   pub reading_is : reading ≡ NoMore new.count
   pub new_is : new ≡ record old { rest = []; count = new.count }
 
 -- a token was read; it starts at that place of the text
-pub record Took (old new : ReaderState) (reading : Reading) (token : List ℕ) (start number : ℕ) : Type 0 where
+pub record TookToken (old new : ReaderState) (reading : Reading) (token : List ℕ) (start number : ℕ) : Type 0 where
   pub reading_is : reading ≡ Reads token number new.rest
   pub new_is : new ≡ record old { rest = new.rest; count = number }
   pub starts : start + length token + length new.rest ≡ length old.text

@@ -7,7 +7,7 @@ use Rattle.forth_reader.specs.declared.refusal.ReadCause.TheVariants as cause
 use Rattle.forth_reader.specs.declared.refusal.ReadRefusal.{ReadRefusal}
 use Rattle.forth_reader.specs.Reading.{NoMore, Reads, Refuses, Quoted, Unquoted}
 use Rattle.forth_reader.specs.Splitting.{IsBadByte, is_parenthesis_byte, is_line_byte, NameIs, StringIs}
-use Rattle.forth_reader.specs.ReaderState.{ReaderState, next_reading, name_reading, string_reading, Took, Ended, Failed, TookString, FailedString}
+use Rattle.forth_reader.specs.ReaderState.{ReaderState, next_reading, name_reading, string_reading, TookToken, Ended, Failed, TookString, FailedString}
 
 -- a token, with the place of its first byte in the text, from 0, and its number, from 1; the text behind it that is skipped, up to
 -- and with the `)` or the line feed that ends it; and the text of a string word
@@ -27,7 +27,7 @@ pub data TokensEnd : Type 0 where
 
 -- nothing, or it is `(`, `\` or a string word
 pub data Kind : Type 0 where
-  Plain : Kind
+  OrdinaryToken : Kind
   OpensComment : Kind
   OpensLine : Kind
   BeforeString : Kind
@@ -45,12 +45,12 @@ is_string_word token =
 
 -- a token that is read as a name does nothing
 abbrev pub kind_of : Bool → List ℕ → Kind
-kind_of true token = Plain
+kind_of true token = OrdinaryToken
 kind_of false token = elim (is_byte 40 token) [
   | true ↦ OpensComment
   | false ↦ elim (is_byte 92 token) [
     | true ↦ OpensLine
-    | false ↦ elim (is_string_word token) [ true ↦ BeforeString | false ↦ Plain ]
+    | false ↦ elim (is_string_word token) [ true ↦ BeforeString | false ↦ OrdinaryToken ]
   ]
 ]
 
@@ -61,7 +61,7 @@ pub data After : Type 0 where
 
 -- what stands directly behind a token of a kind
 pub data Behind : Kind → List ℕ → After → Type 0 where
-  plain : (rest : List ℕ) → Behind Plain rest (Passes [] None rest)
+  plain : (rest : List ℕ) → Behind OrdinaryToken rest (Passes [] None rest)
   comment : (text rest : List ℕ) → list_all is_parenthesis_byte text ≡ true →
       Behind OpensComment (text ++ 41 ∷ rest) (Passes (text ++ 41 ∷ []) None rest)
   open_comment : (text : List ℕ) → list_all is_parenthesis_byte text ≡ true →
@@ -117,8 +117,8 @@ HasNoOtherTokens =
 -- ---- the calls of a reader
 
 -- a reader at the start of a text
-abbrev pub started : List ℕ → ReaderState
-started text = record { text = text; rest = text; count = 0; failed = None }
+abbrev pub reader_start : List ℕ → ReaderState
+reader_start text = record { text = text; rest = text; count = 0; failed = None }
 
 -- no token from one number to another is read as a name
 abbrev pub NoneNamed : (ℕ → Bool) → ℕ → ℕ → Type 0
@@ -129,12 +129,12 @@ lone_token token start number quoted = record { token = token; start = start; nu
 
 -- a token that a reader gave: by `name`, by `next`, or by `next` and, for a string word, then `string`
 pub data Given (named : ℕ → Bool) (before after : ReaderState) : PlacedToken → Type 0 where
-  by_name : (token : List ℕ) (start number : ℕ) → named number ≡ true → Took before after (name_reading before) token start number →
+  by_name : (token : List ℕ) (start number : ℕ) → named number ≡ true → TookToken before after (name_reading before) token start number →
       Given named before after (lone_token token start number None)
   by_next : (token : List ℕ) (start number : ℕ) → NoneNamed named before.count number → is_string_word token ≡ false →
-      Took before after (next_reading before) token start number → Given named before after (lone_token token start number None)
+      TookToken before after (next_reading before) token start number → Given named before after (lone_token token start number None)
   by_string : (token : List ℕ) (start number : ℕ) (between : ReaderState) (text : List ℕ) → NoneNamed named before.count number →
-      is_string_word token ≡ true → Took before between (next_reading before) token start number →
+      is_string_word token ≡ true → TookToken before between (next_reading before) token start number →
       TookString between after (string_reading between) text → Given named before after (lone_token token start number (Some text))
 
 -- tokens, in their order
@@ -143,17 +143,17 @@ Gave named before [] after = before ≡ after
 Gave named before (t ∷ tokens) after = (between : ReaderState) × (Given named before between t × Gave named between tokens after)
 
 -- what a call answers that gives no token
-pub data Stopped (named : ℕ → Bool) (before : ReaderState) : TokensEnd → Type 0 where
+pub data GaveNoToken (named : ℕ → Bool) (before : ReaderState) : TokensEnd → Type 0 where
   no_next : (new : ReaderState) → NoneNamed named before.count new.count → Ended before new (next_reading before) →
-      Stopped named before (AllRead new.count)
-  no_name : (new : ReaderState) → Ended before new (name_reading before) → Stopped named before (AllRead new.count)
+      GaveNoToken named before (AllRead new.count)
+  no_name : (new : ReaderState) → Ended before new (name_reading before) → GaveNoToken named before (AllRead new.count)
   next_refused : (new : ReaderState) (refusal : ReadRefusal) → NoneNamed named before.count refusal.token →
-      Failed before new (next_reading before) refusal → Stopped named before (Faulty refusal.token refusal.cause)
+      Failed before new (next_reading before) refusal → GaveNoToken named before (Faulty refusal.token refusal.cause)
   name_refused : (new : ReaderState) (refusal : ReadRefusal) → Failed before new (name_reading before) refusal →
-      Stopped named before (Faulty refusal.token refusal.cause)
+      GaveNoToken named before (Faulty refusal.token refusal.cause)
   string_refused : (token : List ℕ) (start number : ℕ) (between new : ReaderState) (refusal : ReadRefusal) →
-      NoneNamed named before.count number → is_string_word token ≡ true → Took before between (next_reading before) token start number →
-      FailedString between new (string_reading between) refusal → Stopped named before (Faulty refusal.token refusal.cause)
+      NoneNamed named before.count number → is_string_word token ≡ true → TookToken before between (next_reading before) token start number →
+      FailedString between new (string_reading between) refusal → GaveNoToken named before (Faulty refusal.token refusal.cause)
 
 abbrev pub is_comment_kind : Kind → Bool
 is_comment_kind OpensComment = true
@@ -173,5 +173,5 @@ without_comments named (t ∷ tokens) = elim (is_comment_kind (kind_of (named t.
 abbrev pub CallsGiveTokens : Type 0
 CallsGiveTokens =
     (named : ℕ → Bool) (text : List ℕ) (tokens : List PlacedToken) (after : ReaderState) (end : TokensEnd) →
-    Gave named (started text) tokens after → Stopped named after end →
+    Gave named (reader_start text) tokens after → GaveNoToken named after end →
     (all : List PlacedToken) × (AreTokens named text all end × (without_comments named all ≡ tokens))

@@ -1,7 +1,7 @@
 // Names in a list, each asked and counted.
 ghost use Rattle.std.specs.Prelude.{◌≡◌, ◌<◌, ◌≤◌, ◌↔◌, ◌++◌, [], ◌∷◌, length, take, slice_index_or, IfOk, OnOk, OnErr, IsSome, IfSome};
 ghost use Rattle.std.specs.Str.{str_eq_ignore_ascii_case};
-ghost use Rattle.forth_reader.specs.ReaderState.{IsToken};
+ghost use Rattle.forth_reader.specs.Name.{IsName};
 ghost use Rattle.forth_reader.specs.NameList.{looks_after};
 
 use arrayvec::ArrayString;
@@ -24,7 +24,7 @@ impl Model for KeptName {
 
 impl KeptName {
     fn new(text: &str) -> KeptName
-        requires { IsToken text.now }
+        requires { IsName text.now }
         ensures { result ≡ text.now }
     {
         let mut held = ArrayString::new();
@@ -68,7 +68,7 @@ impl Names {
 
     /// Puts a name at the end. Where there is no memory for it, nothing changes.
     pub fn push(&mut self, name: &str) -> Result<(), AllocError>
-        requires form { IsToken name.now }
+        requires form { IsName name.now }
         requires room { length self.old.names < 4294967295 }
         ensures ok { OnOk result (self.new ≡ record self.old { names = self.old.names ++ name.now ∷ [] }) }
         ensures err { OnErr result (self.new ≡ self.old) }

@@ -35,7 +35,8 @@ impl<'a> Reader<'a> {
     ghost use Rattle.std.specs.Prelude.{List, [], None, Some, false, ◌+◌};
     ghost use Rattle.forth_reader.specs.Bytes.{graphic_front, behind_graphic};
     ghost use Rattle.forth_reader.specs.Reading.{Quoted, ends_token, whole_token};
-    ghost use Rattle.forth_reader.specs.ReaderState.{ReaderState, IsReaderState, next_reading, name_reading, string_reading, IsToken, Ended, Took, TookString, Failed, FailedString};
+    ghost use Rattle.forth_reader.specs.ReaderState.{ReaderState, IsReaderState, next_reading, name_reading, string_reading, Ended, TookToken, TookString, Failed, FailedString};
+    ghost use Rattle.forth_reader.specs.Name.{IsName};
 
     /// A reader at the start of a source, with no token read.
     pub fn new(bytes: &'a [u8]) -> Reader<'a>
@@ -74,10 +75,10 @@ impl<'a> Reader<'a> {
         requires within { length at.now ≤ length self.old.text }
         requires counted { number + length at.now ≤ length self.old.text + 1 }
         ensures cases { MatchResult result
-            (λ token. (token.number ≡ number) × Took self.old self.new (whole_token number (graphic_front at.now) (behind_graphic at.now)) token.text.now token.start number)
+            (λ token. (token.number ≡ number) × TookToken self.old self.new (whole_token number (graphic_front at.now) (behind_graphic at.now)) token.text.now token.start number)
             (λ refusal. Failed self.old self.new (whole_token number (graphic_front at.now) (behind_graphic at.now)) refusal) }
         ensures shorter { OnOk result (length self.new.rest < length at.now) }
-        ensures form { IfOk result (λ token. IsToken token.text.now) }
+        ensures form { IfOk result (λ token. IsName token.text.now) }
     {
         let (run, behind) = split_run(at);
         if !may_follow_token(behind) {
@@ -101,11 +102,11 @@ impl<'a> Reader<'a> {
     /// A comment is a token too, `(` or `\`, and is counted; its text is not.
     pub fn next(&mut self) -> Result<Option<Token<'a>>, ReadRefusal>
         ensures shorter { IfOk result (λ found. OnSome found (length self.new.rest < length self.old.rest)) }
-        ensures form { IfOk result (λ found. IfSome found (λ token. IsToken token.text.now)) }
+        ensures form { IfOk result (λ found. IfSome found (λ token. IsName token.text.now)) }
         ensures cases { MatchResult result
             (λ found. MatchOption found
             (Ended self.old self.new (next_reading self.old))
-            (λ token. Took self.old self.new (next_reading self.old) token.text.now token.start token.number))
+            (λ token. TookToken self.old self.new (next_reading self.old) token.text.now token.start token.number))
             (λ refusal. Failed self.old self.new (next_reading self.old) refusal) }
         ensures for_good { IfSome self.old.failed (λ refusal. (result ≡ Err refusal) × (self.new ≡ self.old)) }
     {
@@ -147,11 +148,11 @@ impl<'a> Reader<'a> {
     /// The next token, read as a name: `(` and `\` too. Ok(None) comes exactly where none is left.
     pub fn name(&mut self) -> Result<Option<Token<'a>>, ReadRefusal>
         ensures shorter { IfOk result (λ found. OnSome found (length self.new.rest < length self.old.rest)) }
-        ensures form { IfOk result (λ found. IfSome found (λ token. IsToken token.text.now)) }
+        ensures form { IfOk result (λ found. IfSome found (λ token. IsName token.text.now)) }
         ensures cases { MatchResult result
             (λ found. MatchOption found
             (Ended self.old self.new (name_reading self.old))
-            (λ token. Took self.old self.new (name_reading self.old) token.text.now token.start token.number))
+            (λ token. TookToken self.old self.new (name_reading self.old) token.text.now token.start token.number))
             (λ refusal. Failed self.old self.new (name_reading self.old) refusal) }
         ensures for_good { IfSome self.old.failed (λ refusal. (result ≡ Err refusal) × (self.new ≡ self.old)) }
     {

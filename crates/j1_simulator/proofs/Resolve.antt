@@ -3,20 +3,20 @@ use Rattle.std.proofs.Common.{◌≡◌, ℕ, Bool, true, false, List, Option, S
 use Rattle.j1_simulator.specs.declared.effects.Output.TheVariants.{Silent}
 use Rattle.j1_simulator.specs.declared.effects.Effect.{Effect}
 use Rattle.j1_simulator.specs.declared.effects.Output.{Output}
-use Rattle.j1_simulator.specs.Step.{Core, Missing, Reach, Reaches, Asks, Stops, Goes, Takes, Ends, if_known, next_pc, moved_on, goes_on, accesses, applied, effect_at, step}
+use Rattle.j1_simulator.specs.Step.{Core, Missing, Reach, Reaches, Asks, Faults, Advances, Takes, Terminates, if_known, next_pc, moved_on, goes_on, accesses, applied, effect_at, step}
 use Rattle.j1_simulator.specs.RoundMachine.{RingCells, round_storage, ring_top}
 use Rattle.j1_simulator.specs.MachineState.{WentOn, reached_with, with_key}
 
 -- where the next place is known
-going : (e : Effect) (core : Core ℕ RingCells) (cell : ℕ) (memory : List ℕ) (output : Output) (pc : ℕ) → next_pc round_storage e.next core.pc core.t (ring_top core.return_stack) ≡ Some pc → goes_on round_storage e core (Reaches cell memory output) ≡ Goes (moved_on round_storage e core pc cell memory) output
-going e core cell memory output pc n = ap (λ o. if_known o (Ends Missing) (λ p. Goes (moved_on round_storage e core p cell memory) output)) n
+going : (e : Effect) (core : Core ℕ RingCells) (cell : ℕ) (memory : List ℕ) (output : Output) (pc : ℕ) → next_pc round_storage e.next core.pc core.t (ring_top core.return_stack) ≡ Some pc → goes_on round_storage e core (Reaches cell memory output) ≡ Advances (moved_on round_storage e core pc cell memory) output
+going e core cell memory output pc n = ap (λ o. if_known o (Terminates Missing) (λ p. Advances (moved_on round_storage e core p cell memory) output)) n
 
 asking : (e : Effect) (core : Core ℕ RingCells) (pc : ℕ) → next_pc round_storage e.next core.pc core.t (ring_top core.return_stack) ≡ Some pc → goes_on round_storage e core Asks ≡ Takes (λ byte. moved_on round_storage e core pc byte core.memory)
-asking e core pc n = ap (λ o. if_known o (Ends Missing) (λ p. Takes (λ byte. moved_on round_storage e core p byte core.memory))) n
+asking e core pc n = ap (λ o. if_known o (Terminates Missing) (λ p. Takes (λ byte. moved_on round_storage e core p byte core.memory))) n
 
 pub goes_resolved : (key : Option ℕ) (e : Effect) (core : Core ℕ RingCells) (reach : Reach ℕ) (cell : ℕ) (memory : List ℕ) (output : Output) (pc : ℕ) → Reaches cell memory output ≡ reached_with key core.memory reach → next_pc round_storage e.next core.pc core.t (ring_top core.return_stack) ≡ Some pc → with_key key (goes_on round_storage e core reach) ≡ WentOn (moved_on round_storage e core pc cell memory) output
 goes_resolved key e core (Reaches c m d) cell memory output pc r n = ap (with_key key) (going e core c m d pc n) ∙ cc
-goes_resolved key e core (Stops stop) cell memory output pc r n = cc
+goes_resolved key e core (Faults stop) cell memory output pc r n = cc
 goes_resolved None e core Asks cell memory output pc r n = cc
 goes_resolved (Some byte) e core Asks cell memory output pc r n = ap (with_key (Some byte)) (asking e core pc n) ∙ cc
 

@@ -8,11 +8,11 @@ use Rattle.j1_simulator.specs.Step.{Stop, By, step}
 use Rattle.j1_simulator.specs.RoundMachine.{RingCells, round_storage}
 use Rattle.j1_simulator.specs.MachineState.{MachineState, IsTaking, WantsAByte}
 use Rattle.j1_simulator.specs.Run.{Configuration, IsPrefixOf, advance}
-use Rattle.j1_simulator.specs.Drive.{Holds, HoldsAll, StandsAt, TakesNext, driven, going_on, LacksLast}
+use Rattle.j1_simulator.specs.Drive.{HoldsPrints, HoldsAll, StandsAt, TakesNext, driven, going_on, LacksLast}
 use Rattle.j1_simulator.specs.Turn.{Adds, Fills}
-use Rattle.j1_simulator.proofs.Holding.{holds_still}
-use Rattle.j1_simulator.proofs.Running.{run_suc}
-use Rattle.j1_simulator.proofs.Growing.{longer}
+use Rattle.j1_simulator.proofs.FlushedOutput.{holds_still}
+use Rattle.j1_simulator.proofs.Runs.{run_suc}
+use Rattle.j1_simulator.proofs.RunGrowth.{longer}
 
 -- what waits after k instructions on this input was printed since a moment since which no byte was taken
 pub record Unwritten (first : MachineState) (k : ℕ) (input buffer : List ℕ) : Type 0 where
@@ -63,7 +63,7 @@ ended_there : (configuration : Configuration ℕ RingCells) (fits : Bool) (new :
 ended_there configuration fits new data_start s e = input_ended new.ended (s.ended ∙ e)
 
 -- a failed write before a question, or at the end
-pub lacks_flush : (limit k : ℕ) (fits : Bool) (first new : MachineState) (input : List ℕ) (before now later : Option (List ℕ)) (buffer : List ℕ) → length buffer < 512 → StandsAt (driven first k input) fits new first.data_start → WantsAByte new ⊎ ((end : End) × (new.ended ≡ Some end)) ⊎ (k ≡ limit) → (new.ended ≡ Some InputEnded → buffer ≡ []) → Holds before now buffer (driven first k input).printed → Unwritten first k input buffer → HoldsAll now later [] → LacksLast limit k (λ k. driven first k input) first.data_start before later
+pub lacks_flush : (limit k : ℕ) (fits : Bool) (first new : MachineState) (input : List ℕ) (before now later : Option (List ℕ)) (buffer : List ℕ) → length buffer < 512 → StandsAt (driven first k input) fits new first.data_start → WantsAByte new ⊎ ((end : End) × (new.ended ≡ Some end)) ⊎ (k ≡ limit) → (new.ended ≡ Some InputEnded → buffer ≡ []) → HoldsPrints before now buffer (driven first k input).printed → Unwritten first k input buffer → HoldsAll now later [] → LacksLast limit k (λ k. driven first k input) first.data_start before later
 lacks_flush limit k fits first new input before now later buffer room stands cause none h u grows =
     let size = waiting_length first k input buffer u in
     record {
@@ -77,7 +77,7 @@ lacks_flush limit k fits first new input before now later buffer room stands cau
     }
 
 -- a failed write of 512 bytes
-pub lacks_full : (limit k : ℕ) (fits : Bool) (first new : MachineState) (input : List ℕ) (before now later : Option (List ℕ)) (buffer : List ℕ) → length buffer < 512 → StandsAt (driven first (suc k) input) fits new first.data_start → Fills new (driven first k input) (advance first.data_start (driven first k input)) buffer → Holds before now buffer (driven first k input).printed → Unwritten first k input buffer → HoldsAll now later [] → LacksLast limit (suc k) (λ k. driven first k input) first.data_start before later
+pub lacks_full : (limit k : ℕ) (fits : Bool) (first new : MachineState) (input : List ℕ) (before now later : Option (List ℕ)) (buffer : List ℕ) → length buffer < 512 → StandsAt (driven first (suc k) input) fits new first.data_start → Fills new (driven first k input) (advance first.data_start (driven first k input)) buffer → HoldsPrints before now buffer (driven first k input).printed → Unwritten first k input buffer → HoldsAll now later [] → LacksLast limit (suc k) (λ k. driven first k input) first.data_start before later
 lacks_full limit k fits first new input before now later buffer room stands f h u grows =
     let next : driven first (suc k) input ≡ advance first.data_start (driven first k input) = run_suc k first.data_start (going_on first input) in
     let size = waiting_length first k input buffer u in

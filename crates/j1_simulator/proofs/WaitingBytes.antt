@@ -10,14 +10,14 @@ use Rattle.j1_simulator.specs.declared.ends.End.{End}
 use Rattle.j1_simulator.specs.declared.ends.End.TheVariants as ends
 use Rattle.j1_simulator.specs.declared.ends.Event.{Event}
 use Rattle.j1_simulator.specs.declared.ends.Event.TheVariants.{Went, Printed, WantsByte, Ended}
-use Rattle.j1_simulator.specs.Step.{Core, Stop, By, Missing, Reach, Reaches, Asks, Stops, Outcome, Goes, Takes, Ends, step, accesses, fetched, stored, exchanged, goes_on, next_pc, if_known, effect_at}
+use Rattle.j1_simulator.specs.Step.{Core, Stop, By, Missing, Reach, Reaches, Asks, Faults, Transition, Advances, Takes, Terminates, step, accesses, fetched, stored, exchanged, goes_on, next_pc, if_known, effect_at}
 use Rattle.j1_simulator.specs.RoundMachine.{RingCells, round_storage}
-use Rattle.j1_simulator.specs.MachineState.{MachineState, Answers, Steps, IsTaking, WantsAByte, GivenIsDue}
+use Rattle.j1_simulator.specs.MachineState.{MachineState, AnswersStep, Steps, IsTaking, WantsAByte, GivenIsDue}
 use Rattle.j1_simulator.specs.Run.{Configuration, advance}
-use Rattle.j1_simulator.specs.Drive.{Holds, IsAt, told, ended_by}
+use Rattle.j1_simulator.specs.Drive.{HoldsPrints, IsAt, told, end_of_event}
 use Rattle.j1_simulator.specs.Turn.{LeftAfter, MayWait, Adds, Follows, Fills}
-use Rattle.j1_simulator.proofs.Turning.{stepped}
-use Rattle.j1_simulator.proofs.Wanting.{ended_is, used}
+use Rattle.j1_simulator.proofs.RunSteps.{stepped}
+use Rattle.j1_simulator.proofs.Turns.{ended_is, used}
 
 -- ---- an end for want of input comes only from an instruction that takes a byte
 
@@ -25,7 +25,7 @@ abbrev IsOther : Stop → Type 0
 IsOther stop = stop ≡ By ends.InputEnded → ⊥
 
 abbrev ReachIsOther : Reach ℕ → Type 0
-ReachIsOther (Stops stop) = IsOther stop
+ReachIsOther (Faults stop) = IsOther stop
 ReachIsOther (Reaches cell memory output) = ⊤
 ReachIsOther Asks = ⊤
 
@@ -62,17 +62,17 @@ accesses_are_other data_start true false memory t n = fetched_is_other memory (a
 accesses_are_other data_start false true memory t n = stored_is_other t n memory (access_at data_start true t)
 accesses_are_other data_start true true memory t n = exchanged_is_other t n memory (access_at data_start true t)
 
-abbrev OutcomeIsOther : Outcome ℕ RingCells → Type 0
-OutcomeIsOther (Ends stop) = IsOther stop
-OutcomeIsOther (Goes core output) = ⊤
+abbrev OutcomeIsOther : Transition ℕ RingCells → Type 0
+OutcomeIsOther (Terminates stop) = IsOther stop
+OutcomeIsOther (Advances core output) = ⊤
 OutcomeIsOther (Takes next) = ⊤
 
-known_goes : (place : Option ℕ) (go : ℕ → Outcome ℕ RingCells) → ((pc : ℕ) → OutcomeIsOther (go pc)) → OutcomeIsOther (if_known place (Ends Missing) go)
+known_goes : (place : Option ℕ) (go : ℕ → Transition ℕ RingCells) → ((pc : ℕ) → OutcomeIsOther (go pc)) → OutcomeIsOther (if_known place (Terminates Missing) go)
 known_goes None go h = missing_is_other
 known_goes (Some pc) go h = h pc
 
 goes_on_is_other : (e : Effect) (core : Core ℕ RingCells) (reach : Reach ℕ) → ReachIsOther reach → OutcomeIsOther (goes_on round_storage e core reach)
-goes_on_is_other e core (Stops stop) h = h
+goes_on_is_other e core (Faults stop) h = h
 goes_on_is_other e core (Reaches cell memory output) h = known_goes (next_pc round_storage e.next core.pc core.t (round_storage.top core.return_stack)) _ (λ pc. tt)
 goes_on_is_other e core Asks h = known_goes (next_pc round_storage e.next core.pc core.t (round_storage.top core.return_stack)) _ (λ pc. tt)
 
@@ -83,11 +83,11 @@ step_is_other data_start core =
 
 -- ---- an instruction that takes a byte prints nothing
 
-answers_silent : (byte : Option ℕ) (o : Outcome ℕ RingCells) (event : Event) (old new : MachineState) → IsTaking o → Answers (Some byte) o event old new → told event ≡ []
+answers_silent : (byte : Option ℕ) (o : Transition ℕ RingCells) (event : Event) (old new : MachineState) → IsTaking o → AnswersStep (Some byte) o event old new → told event ≡ []
 answers_silent None (Takes next) event old new t h = ap told h.0
 answers_silent (Some byte) (Takes next) event old new t h = ap told h.0
-answers_silent byte (Goes core output) event old new t h = absurd t
-answers_silent byte (Ends stop) event old new t h = absurd t
+answers_silent byte (Advances core output) event old new t h = absurd t
+answers_silent byte (Terminates stop) event old new t h = absurd t
 
 -- a step of a machine that wanted a byte and was given it
 pub key_silent : (old given new : MachineState) (event : Event) (byte : Option ℕ) → WantsAByte old → given ≡ record old { given = Some byte } → Steps given.ended event given new → told event ≡ []
@@ -96,7 +96,7 @@ key_silent old given new event byte w g h =
     let key : given.given ≡ Some byte = ap (λ s. s.given) g in
     let taking : IsTaking (step round_storage given.data_start given.core) = subst (λ m. IsTaking (step round_storage m.data_start m.core)) (sym g) w.taking in
     let h1 : Steps None event given new = subst (λ e. Steps e event given new) running h in
-    answers_silent byte (step round_storage given.data_start given.core) event given new taking (subst (λ k. Answers k (step round_storage given.data_start given.core) event given new) key h1)
+    answers_silent byte (step round_storage given.data_start given.core) event given new taking (subst (λ k. AnswersStep k (step round_storage given.data_start given.core) event given new) key h1)
 
 hand_silent : (byte : Option ℕ) (machine new : MachineState) (event : Event) → machine.given ≡ Some byte → GivenIsDue machine → Steps machine.ended event machine new → told event ≡ []
 hand_silent byte machine new event g due h =
@@ -105,19 +105,19 @@ hand_silent byte machine new event g due h =
     key_silent bare machine new event byte (due byte g) same h
 
 -- an event that ends the run prints nothing
-ended_silent : (event : Event) (end : End) → ended_by event ≡ Some end → told event ≡ []
+ended_silent : (event : Event) (end : End) → end_of_event event ≡ Some end → told event ≡ []
 ended_silent Went end e = refl
 ended_silent WantsByte end e = refl
 ended_silent (Ended other) end e = refl
 ended_silent (Printed byte) end e = cc
 
 -- what prints does not end the run
-printed_goes_on : (event : Event) (end : End) → (told event ≡ [] → ⊥) → ended_by event ≡ Some end → ⊥
+printed_goes_on : (event : Event) (end : End) → (told event ≡ [] → ⊥) → end_of_event event ≡ Some end → ⊥
 printed_goes_on event end p e = p (ended_silent event end e)
 
 -- ---- what a step prints and takes, whatever out tells
 
-prints_of_blank : (xs ys : List ℕ) → Holds (Some []) (Some []) xs ys → ys ≡ xs
+prints_of_blank : (xs ys : List ℕ) → HoldsPrints (Some []) (Some []) xs ys → ys ≡ xs
 prints_of_blank xs ys h = let e : h.0 ≡ [] = sym h.1 in sym h.2 ∙ ap (λ w. w ++ xs) e
 
 stepped_prints : (configuration : Configuration ℕ RingCells) (fits : Bool) (machine new : MachineState) (data_start : ℕ) (event : Event) (left left' before now : Option (List ℕ)) (buffer : List ℕ) → IsAt configuration fits machine data_start left before now buffer → GivenIsDue machine → Steps machine.ended event machine new → (event ≡ WantsByte → ⊥) → LeftAfter machine.given left left' → (advance data_start configuration).printed ≡ configuration.printed ++ told event
@@ -147,15 +147,15 @@ given_waits (Some byte) configuration to machine new event buffer waiting g due 
     inl (noted_silent buffer waiting event none (hand_silent byte machine new event g due h) n)
 
 -- a step that is not asked for its byte ends for want of input only where that was told by hand, or where it had ended so before
-answers_input_ended : (given : Option (Option ℕ)) (o : Outcome ℕ RingCells) (event : Event) (old new : MachineState) → OutcomeIsOther o → Answers given o event old new → (event ≡ WantsByte → ⊥) → new.ended ≡ Some ends.InputEnded → given ≡ None → ⊥
-answers_input_ended given (Goes core Silent) event old new other h apart e none = let n : new.ended ≡ None = ap (λ s. s.ended) h.1 in cc
-answers_input_ended given (Goes core (Prints byte)) event old new other h apart e none = let n : new.ended ≡ None = ap (λ s. s.ended) h.1 in cc
-answers_input_ended given (Goes core (Halts status)) event old new other h apart e none = let n : new.ended ≡ Some (ends.Halted status) = ap (λ s. s.ended) h.1 in cc
-answers_input_ended given (Ends (By end)) event old new other h apart e none =
+answers_input_ended : (given : Option (Option ℕ)) (o : Transition ℕ RingCells) (event : Event) (old new : MachineState) → OutcomeIsOther o → AnswersStep given o event old new → (event ≡ WantsByte → ⊥) → new.ended ≡ Some ends.InputEnded → given ≡ None → ⊥
+answers_input_ended given (Advances core Silent) event old new other h apart e none = let n : new.ended ≡ None = ap (λ s. s.ended) h.1 in cc
+answers_input_ended given (Advances core (Prints byte)) event old new other h apart e none = let n : new.ended ≡ None = ap (λ s. s.ended) h.1 in cc
+answers_input_ended given (Advances core (Halts status)) event old new other h apart e none = let n : new.ended ≡ Some (ends.Halted status) = ap (λ s. s.ended) h.1 in cc
+answers_input_ended given (Terminates (By end)) event old new other h apart e none =
     let n : new.ended ≡ Some end = ap (λ s. s.ended) h.1 in
     let same : end ≡ ends.InputEnded = cc in
     other (ap By same)
-answers_input_ended given (Ends Missing) event old new other h apart e none = absurd h
+answers_input_ended given (Terminates Missing) event old new other h apart e none = absurd h
 answers_input_ended None (Takes next) event old new other h apart e none = apart h.0
 answers_input_ended (Some key) (Takes next) event old new other h apart e none = cc
 

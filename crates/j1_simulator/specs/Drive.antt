@@ -17,10 +17,10 @@ use Rattle.j1_simulator.specs.MachineState.{MachineState, Depths, IsTaking}
 use Rattle.j1_simulator.specs.Run.{Configuration, IsPrefixOf, run}
 
 -- known bytes that were before are now followed by what was printed, but for what waits in the buffer
-abbrev pub Holds : Option (List ℕ) → Option (List ℕ) → List ℕ → List ℕ → Type 0
-Holds None now buffer printed = ⊤
-Holds (Some old) None buffer printed = ⊥
-Holds (Some old) (Some new) buffer printed = (written : List ℕ) × (new ≡ old ++ written) × (written ++ buffer ≡ printed)
+abbrev pub HoldsPrints : Option (List ℕ) → Option (List ℕ) → List ℕ → List ℕ → Type 0
+HoldsPrints None now buffer printed = ⊤
+HoldsPrints (Some old) None buffer printed = ⊥
+HoldsPrints (Some old) (Some new) buffer printed = (written : List ℕ) × (new ≡ old ++ written) × (written ++ buffer ≡ printed)
 
 -- known bytes that were before are now followed by a beginning of what was printed
 abbrev pub HoldsFront : Option (List ℕ) → Option (List ℕ) → List ℕ → Type 0
@@ -56,7 +56,7 @@ pub record StandsAt (configuration : Configuration ℕ RingCells) (fits : Bool) 
 pub record IsAt (configuration : Configuration ℕ RingCells) (fits : Bool) (machine : MachineState) (data_start : ℕ) (left before now : Option (List ℕ)) (buffer : List ℕ) : Type 0 where
   pub stands : StandsAt configuration fits machine data_start
   pub left_is : left ≡ Some configuration.input
-  pub out : Holds before now buffer configuration.printed
+  pub out : HoldsPrints before now buffer configuration.printed
 
 -- with its input, and with a beginning of what was printed in out
 pub record StandsWritten (configuration : Configuration ℕ RingCells) (fits : Bool) (machine : MachineState) (data_start : ℕ) (left before now : Option (List ℕ)) : Type 0 where
@@ -86,11 +86,11 @@ told WantsByte = []
 told (events.Ended end) = []
 
 -- the end that an event brings
-abbrev pub ended_by : Event → Option End
-ended_by (events.Ended end) = Some end
-ended_by Went = None
-ended_by WantsByte = None
-ended_by (Printed byte) = None
+abbrev pub end_of_event : Event → Option End
+end_of_event (events.Ended end) = Some end
+end_of_event Went = None
+end_of_event WantsByte = None
+end_of_event (Printed byte) = None
 
 -- the input of a run: the byte that was given by hand, where there is one, and then the console's bytes;
 -- none where it was told by hand that there is none
@@ -161,7 +161,7 @@ pub record MadeAtMost (n : ℕ) (result : Result Finish DriveError) (old new : M
   pub used : left_of old.given made (Some []) ≡ Some (driven old made (input_for old.given bytes)).input
   pub calls : calls_after ≤ calls_before + length bytes + in_vain result new.ended
   pub stands : StandsAt (driven old made (input_for old.given bytes)) (driven_fits old made (input_for old.given bytes)) new old.data_start
-  pub written : (result ≡ Err Write → ⊥) → Holds before now [] (driven old made (input_for old.given bytes)).printed
+  pub written : (result ≡ Err Write → ⊥) → HoldsPrints before now [] (driven old made (input_for old.given bytes)).printed
   pub front : HoldsFront before now (driven old made (input_for old.given bytes)).printed
   pub lacks : result ≡ Err Write → LacksLast n made (λ k. driven old k (input_for old.given bytes)) old.data_start before now
 

@@ -10,7 +10,7 @@ use Rattle.j1_simulator.specs.Step.{Storage, Stop}
 use Rattle.j1_simulator.specs.RoundMachine.{RingCells, round_storage}
 use Rattle.j1_simulator.specs.OpenMachine.{Tape, open_storage}
 use Rattle.j1_simulator.specs.Run.{Configuration, IsPrefixOf, run, round_run, advance}
-use Rattle.j1_simulator.specs.MachineState.{MachineState, Steps, WantsAByte, started}
+use Rattle.j1_simulator.specs.MachineState.{MachineState, Steps, WantsAByte, machine_start}
 use Rattle.j1_simulator.specs.Drive.{IsAt, counters_fit, driven, told}
 
 -- what was printed after k instructions begins what was printed after n, and an end is an end for good
@@ -20,11 +20,11 @@ pub record OnlyGrows {V S : Type 0} (storage : Storage V S) : Type 0 where
 
 -- a drive from the start is the run of the round machine
 abbrev pub DriveIsRun : Type 0
-DriveIsRun = (image : Content) (input : List ℕ) (n : ℕ) → driven (started image) n input ≡ round_run image input n
+DriveIsRun = (image : Content) (input : List ℕ) (n : ℕ) → driven (machine_start image) n input ≡ round_run image input n
 
 -- a machine stands at the start of the run
 abbrev pub BeginsAtStart : Type 0
-BeginsAtStart = (image : Content) (input : List ℕ) → IsAt (round_run image input 0) (counters_fit (round_run image input 0)) (started image) image.data_start (Some input) (Some []) (Some []) []
+BeginsAtStart = (image : Content) (input : List ℕ) → IsAt (round_run image input 0) (counters_fit (round_run image input 0)) (machine_start image) image.data_start (Some input) (Some []) (Some []) []
 
 -- a step answers WantsByte exactly where the next instruction takes a byte and none was given; the machine is then unchanged
 abbrev pub WantsExactly : Type 0

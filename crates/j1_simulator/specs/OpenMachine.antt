@@ -10,9 +10,9 @@ pub record Tape : Type 0 where
   pub above : List (Option ℕ)
   pub at : ℤ
 
-abbrev pub first : List (Option ℕ) → Option ℕ
-first [] = None
-first (cell ∷ cells) = cell
+abbrev pub top_cell : List (Option ℕ) → Option ℕ
+top_cell [] = None
+top_cell (cell ∷ cells) = cell
 
 abbrev pub rest : List (Option ℕ) → List (Option ℕ)
 rest [] = []
@@ -20,10 +20,10 @@ rest (cell ∷ cells) = cells
 
 -- the cells at the places around a pointer that goes up or down
 abbrev pub up : Tape → Tape
-up tape = record { below = first tape.above ∷ tape.below; above = rest tape.above; at = tape.at }
+up tape = record { below = top_cell tape.above ∷ tape.below; above = rest tape.above; at = tape.at }
 
 abbrev pub down : Tape → Tape
-down tape = record { below = rest tape.below; above = first tape.below ∷ tape.above; at = tape.at }
+down tape = record { below = rest tape.below; above = top_cell tape.below ∷ tape.above; at = tape.at }
 
 abbrev pub down_times : ℕ → Tape → Tape
 down_times zero tape = tape
@@ -51,7 +51,7 @@ both_known f None n = None
 both_known f (Some t) None = None
 
 abbrev pub open_storage : Storage (Option ℕ) Tape
-open_storage = record { number = λ n. Some n; on_one = option_map; on_two = both_known; known = λ cell. cell; top = λ tape. first tape.below; moved = tape_moved; put = tape_put; place = λ tape. around tape.at }
+open_storage = record { number = λ n. Some n; on_one = option_map; on_two = both_known; known = λ cell. cell; top = λ tape. top_cell tape.below; moved = tape_moved; put = tape_put; place = λ tape. around tape.at }
 
 -- a stack of unknown cells
 abbrev pub blank : Tape

@@ -2,7 +2,7 @@
 use Rattle.std.specs.Prelude.{◌≡◌, ℕ, zero, suc, ◌-◌, ◌/◌, ℤ, pos, ◌+ℤ◌, List, [], ◌∷◌, ◌++◌, Option, Some, None}
 use Rattle.cell_math.specs.Bytes.{cells_of_bytes, filled}
 use Rattle.j1_table.specs.Image.{Content}
-use Rattle.j1_simulator.specs.Step.{Storage, Core, Stop, By, Outcome, Goes, Takes, Ends, applied, effect_at}
+use Rattle.j1_simulator.specs.Step.{Storage, Core, Stop, By, Transition, Advances, Takes, Terminates, applied, effect_at}
 use Rattle.j1_simulator.specs.declared.effects.Effect.{Effect}
 use Rattle.j1_simulator.specs.declared.ends.End.TheVariants as ends
 use Rattle.j1_simulator.specs.declared.effects.Output.{Output}
@@ -26,10 +26,10 @@ prints_of (Prints byte) = byte ∷ []
 prints_of Silent = []
 prints_of (Halts status) = []
 
-abbrev pub stop_of : Output → Option Stop
-stop_of (Halts status) = Some (By (ends.Halted status))
-stop_of Silent = None
-stop_of (Prints byte) = None
+abbrev pub stop_of_output : Output → Option Stop
+stop_of_output (Halts status) = Some (By (ends.Halted status))
+stop_of_output Silent = None
+stop_of_output (Prints byte) = None
 
 -- the bytes printed, after an output
 abbrev pub printed_by : Output → List ℕ → List ℕ
@@ -55,19 +55,19 @@ module _ {V S : Type 0} where
   taken_on e next [] configuration = record configuration { stop = Some (By ends.InputEnded) }
   taken_on e next (byte ∷ input) configuration = counted_on e (next byte) input configuration.printed None configuration
 
-  abbrev pub with_outcome : Effect → Outcome V S → Configuration V S → Configuration V S
-  with_outcome e (Ends stop) configuration = record configuration { stop = Some stop }
+  abbrev pub with_outcome : Effect → Transition V S → Configuration V S → Configuration V S
+  with_outcome e (Terminates stop) configuration = record configuration { stop = Some stop }
   with_outcome e (Takes next) configuration = taken_on e next configuration.input configuration
-  with_outcome e (Goes core output) configuration = counted_on e core configuration.input (printed_by output configuration.printed) (stop_of output) configuration
+  with_outcome e (Advances core output) configuration = counted_on e core configuration.input (printed_by output configuration.printed) (stop_of_output output) configuration
 
   -- an effect, unless the run has ended
-  abbrev pub made : Option Stop → Storage V S → ℕ → Effect → Configuration V S → Configuration V S
-  made (Some stop) storage data_start e configuration = configuration
-  made None storage data_start e configuration = with_outcome e (applied storage data_start e configuration.core) configuration
+  abbrev pub after_effect : Option Stop → Storage V S → ℕ → Effect → Configuration V S → Configuration V S
+  after_effect (Some stop) storage data_start e configuration = configuration
+  after_effect None storage data_start e configuration = with_outcome e (applied storage data_start e configuration.core) configuration
 
   -- one instruction, unless the run has ended
   abbrev pub advanced : Option Stop → Storage V S → ℕ → Configuration V S → Configuration V S
-  advanced stop storage data_start configuration = made stop storage data_start (effect_at configuration.core) configuration
+  advanced stop storage data_start configuration = after_effect stop storage data_start (effect_at configuration.core) configuration
 
   -- at most n instructions
   abbrev pub run : Storage V S → ℕ → ℕ → Configuration V S → Configuration V S

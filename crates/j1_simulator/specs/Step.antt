@@ -55,13 +55,13 @@ pub data Stop : Type 0 where
 pub data Reach (V : Type 0) : Type 0 where
   Reaches : V → List ℕ → Output → Reach V
   Asks : Reach V
-  Stops : Stop → Reach V
+  Faults : Stop → Reach V
 
 -- what a step gives: the machine after it, the machine for each byte that it may take, or an end
-pub data Outcome (V S : Type 0) : Type 0 where
-  Goes : Core V S → Output → Outcome V S
-  Takes : (ℕ → Core V S) → Outcome V S
-  Ends : Stop → Outcome V S
+pub data Transition (V S : Type 0) : Type 0 where
+  Advances : Core V S → Output → Transition V S
+  Takes : (ℕ → Core V S) → Transition V S
+  Terminates : Stop → Transition V S
 
 abbrev pub if_known : {A : Type 0} → Option ℕ → A → (ℕ → A) → A
 if_known None missing go = missing
@@ -76,37 +76,37 @@ module _ {V S : Type 0} (storage : Storage V S) where
   abbrev pub fetched : List ℕ → Access → Reach V
   fetched memory (Data i) = Reaches (storage.number (slice_index memory i)) memory Silent
   fetched memory Key = Asks
-  fetched memory (Outside address) = Stops (By (ends.Outside address))
-  fetched memory Print = Stops Missing
-  fetched memory Halt = Stops Missing
+  fetched memory (Outside address) = Faults (By (ends.Outside address))
+  fetched memory Print = Faults Missing
+  fetched memory Halt = Faults Missing
 
   -- a store of a number
   abbrev pub stored : V → ℕ → List ℕ → Access → Reach V
   stored cell value memory (Data i) = Reaches cell (slice_set memory i value) Silent
   stored cell value memory Print = Reaches cell memory (Prints (value % 256))
   stored cell value memory Halt = Reaches cell memory (Halts (value % 256))
-  stored cell value memory (Outside address) = Stops (By (ends.Outside address))
-  stored cell value memory Key = Stops Missing
+  stored cell value memory (Outside address) = Faults (By (ends.Outside address))
+  stored cell value memory Key = Faults Missing
 
   -- a fetch and a store at one address
   abbrev pub exchanged : ℕ → ℕ → List ℕ → Access → Reach V
   exchanged address value memory (Data i) = Reaches (storage.number (slice_index memory i)) (slice_set memory i value) Silent
-  exchanged address value memory Print = Stops (By (ends.Outside (even address)))
-  exchanged address value memory Halt = Stops (By (ends.Outside (even address)))
-  exchanged address value memory (Outside other) = Stops (By (ends.Outside other))
-  exchanged address value memory Key = Stops Missing
+  exchanged address value memory Print = Faults (By (ends.Outside (even address)))
+  exchanged address value memory Halt = Faults (By (ends.Outside (even address)))
+  exchanged address value memory (Outside other) = Faults (By (ends.Outside other))
+  exchanged address value memory Key = Faults Missing
 
   -- the accesses at T, where data space begins at data_start
   abbrev pub accesses : ℕ → Bool → Bool → List ℕ → V → V → Reach V
   accesses data_start false false memory t n = Reaches t memory Silent
   accesses data_start true false memory t n =
-      if_known (storage.known t) (Stops Missing) (λ address. fetched memory (access_at data_start false address))
+      if_known (storage.known t) (Faults Missing) (λ address. fetched memory (access_at data_start false address))
   accesses data_start false true memory t n =
-      if_known (storage.known t) (Stops Missing) (λ address.
-      if_known (storage.known n) (Stops Missing) (λ value. stored t value memory (access_at data_start true address)))
+      if_known (storage.known t) (Faults Missing) (λ address.
+      if_known (storage.known n) (Faults Missing) (λ value. stored t value memory (access_at data_start true address)))
   accesses data_start true true memory t n =
-      if_known (storage.known t) (Stops Missing) (λ address.
-      if_known (storage.known n) (Stops Missing) (λ value. exchanged address value memory (access_at data_start true address)))
+      if_known (storage.known t) (Faults Missing) (λ address.
+      if_known (storage.known n) (Faults Missing) (λ value. exchanged address value memory (access_at data_start true address)))
 
   -- the new T of an operation, from T, N, R, the cell fetched and the depth:
   -- 0 T, 1 N, 2 T+N, 3 T and N, 4 T or N, 5 T xor N, 6 not T, 7 N=T, 8 N<T signed, 9 N rshift T, 10 T-1, 11 R, 12 [T], 13 N lshift T, 14 depth, 15 N<T unsigned
@@ -159,18 +159,18 @@ module _ {V S : Type 0} (storage : Storage V S) where
       }
 
   -- a machine after its accesses, where the next place is known
-  abbrev pub goes_on : Effect → Core V S → Reach V → Outcome V S
-  goes_on e core (Stops stop) = Ends stop
+  abbrev pub goes_on : Effect → Core V S → Reach V → Transition V S
+  goes_on e core (Faults stop) = Terminates stop
   goes_on e core (Reaches cell memory output) =
-      if_known (next_pc e.next core.pc core.t (storage.top core.return_stack)) (Ends Missing) (λ pc. Goes (moved_on e core pc cell memory) output)
+      if_known (next_pc e.next core.pc core.t (storage.top core.return_stack)) (Terminates Missing) (λ pc. Advances (moved_on e core pc cell memory) output)
   goes_on e core Asks =
-      if_known (next_pc e.next core.pc core.t (storage.top core.return_stack)) (Ends Missing) (λ pc. Takes (λ byte. moved_on e core pc (storage.number byte) core.memory))
+      if_known (next_pc e.next core.pc core.t (storage.top core.return_stack)) (Terminates Missing) (λ pc. Takes (λ byte. moved_on e core pc (storage.number byte) core.memory))
 
   -- an effect on a machine
-  abbrev pub applied : ℕ → Effect → Core V S → Outcome V S
+  abbrev pub applied : ℕ → Effect → Core V S → Transition V S
   applied data_start e core =
       goes_on e core (accesses data_start e.fetches e.stores core.memory core.t (storage.top core.data_stack))
 
   -- one instruction
-  abbrev pub step : ℕ → Core V S → Outcome V S
+  abbrev pub step : ℕ → Core V S → Transition V S
   step data_start core = applied data_start (effect_at core) core

@@ -1,6 +1,6 @@
 // The signed depth counters.
 ghost use Rattle.std.specs.Prelude.{◌≡◌, ◌+ℤ◌, pos};
-ghost use Rattle.j1_simulator.specs.MachineState.{held, counted};
+ghost use Rattle.j1_simulator.specs.MachineState.{held, depths_after};
 
 use crate::effects::Effect;
 use std::marker::Model;
@@ -45,7 +45,7 @@ impl Depths {
     /// Counts the moves of an instruction.
     #[inline(always)]
     pub fn count(&mut self, effect: Effect)
-        ensures { self.new ≡ counted self.old effect }
+        ensures { self.new ≡ depths_after self.old effect }
     {
         self.of_data = self.of_data.saturating_add(i64::from(effect.data_move));
         self.of_return = self.of_return.saturating_add(i64::from(effect.return_move));

@@ -4,7 +4,7 @@ ghost use Rattle.j1_simulator.specs.declared.effects.Output.TheVariants.{Silent}
 ghost use Rattle.j1_table.specs.Instruction.{decoded};
 ghost use Rattle.j1_simulator.specs.Step.{step as step_of, effect_at, moved_on, data_after, return_after};
 ghost use Rattle.j1_simulator.specs.RoundMachine.{round_storage, empty_ring};
-ghost use Rattle.j1_simulator.specs.MachineState.{WentOn, seen_of, with_key};
+ghost use Rattle.j1_simulator.specs.MachineState.{WentOn, observation_of, with_key};
 
 use crate::effects::{Effect, Output, Pause, ReturnWrite};
 use crate::operate::{new_top, next_pc_of};
@@ -146,7 +146,7 @@ impl Cpu {
         requires data_high { effect.data_move ≤ℤ pos 1 }
         requires return_low { negsuc 1 ≤ℤ effect.return_move }
         requires return_high { effect.return_move ≤ℤ pos 1 }
-        ensures step { seen_of result self.new ≡ with_key key (step_of round_storage fence.data_start self.old) }
+        ensures step { observation_of result self.new ≡ with_key key (step_of round_storage fence.data_start self.old) }
         ensures err { OnErr result (self.new ≡ self.old) }
     {
         let n = self.data_stack.top();

@@ -4,7 +4,7 @@ ghost use Rattle.outside_io.specs.Causes.{risen, Rose, HasCause};
 ghost use Rattle.j1_simulator.specs.Run.{Configuration};
 ghost use Rattle.j1_simulator.specs.RoundMachine.{RingCells};
 ghost use Rattle.j1_simulator.specs.MachineState.{WantsAByte};
-ghost use Rattle.j1_simulator.specs.Drive.{Holds, HoldsFront, HoldsAll, IsAt, told, ended_by, given_after, IsDriven, IsBrokenOff, MadeAtMost, end_told, KeepsEnd};
+ghost use Rattle.j1_simulator.specs.Drive.{HoldsPrints, HoldsFront, HoldsAll, IsAt, told, end_of_event, given_after, IsDriven, IsBrokenOff, MadeAtMost, end_told, KeepsEnd};
 ghost use Rattle.j1_simulator.specs.Turn.{Turns};
 
 use crate::buffers::Buffer;
@@ -34,12 +34,12 @@ fn note<O: Sink>(event: Event, buffer: &mut Buffer, out: &mut O) -> Result<Optio
     requires answered { event ≡ Event.WantsByte → ⊥ }
 
     ensures room { OnOk result (length buffer.new < 512) }
-    ensures end { IfOk result (λ end. end ≡ ended_by event) }
+    ensures end { IfOk result (λ end. end ≡ end_of_event event) }
     ensures err { OnErr result (result ≡ Err DriveError.Write) }
     ensures cause { HasCause (O.faults out.old) (O.faults out.new) result }
-    ensures ok { (before : Option (List ℕ)) (printed : List ℕ) → Holds before (O.held out.old) (buffer.old ++ told event) printed →
-        OnOk result (Holds before (O.held out.new) buffer.new printed) }
-    ensures front { (before : Option (List ℕ)) (printed : List ℕ) → Holds before (O.held out.old) (buffer.old ++ told event) printed →
+    ensures ok { (before : Option (List ℕ)) (printed : List ℕ) → HoldsPrints before (O.held out.old) (buffer.old ++ told event) printed →
+        OnOk result (HoldsPrints before (O.held out.new) buffer.new printed) }
+    ensures front { (before : Option (List ℕ)) (printed : List ℕ) → HoldsPrints before (O.held out.old) (buffer.old ++ told event) printed →
         OnErr result (HoldsFront before (O.held out.new) printed) }
     ensures grows { HoldsAll (O.held out.old) (O.held out.new) [] }
     ensures waits { OnOk result ((buffer.new ≡ []) ⊎ (buffer.new ≡ buffer.old ++ told event)) }

@@ -2,7 +2,7 @@
 ghost use Rattle.std.specs.Prelude.{◌≡◌, IfOk, None, false, slice_index};
 ghost use Rattle.j1_table.specs.Instruction.{decoded};
 ghost use Rattle.j1_simulator.specs.Effect.{effect};
-ghost use Rattle.j1_simulator.specs.MachineState.{key_of, EndsBy, event_of, end_of, started, Steps, WantsAByte, GivenIsDue};
+ghost use Rattle.j1_simulator.specs.MachineState.{key_of, EndsBy, event_of, end_of_output, machine_start, Steps, WantsAByte, GivenIsDue};
 
 use crate::counters::Depths;
 use crate::cpu::Cpu;
@@ -50,7 +50,7 @@ fn answer(output: Output) -> Event
 
 // The end that a step brings.
 fn end_after(output: Output) -> Option<End>
-    ensures { result ≡ end_of output }
+    ensures { result ≡ end_of_output output }
 {
     match output {
         Output::Halts(status) => Some(End::Halted(status)),
@@ -71,7 +71,7 @@ fn key_in(given: Option<Option<u8>>) -> Option<u8>
 impl Machine {
     /// The machine at its start on an image: at cell 0, with T and both rings 0. An error is want of memory.
     pub fn new(alloc: Global, image: &Image) -> Result<Machine, AllocError>
-        ensures { IfOk result (λ machine. machine ≡ started image.now) }
+        ensures { IfOk result (λ machine. machine ≡ machine_start image.now) }
     {
         let memory = memory_cells(alloc, image)?;
         Ok(Machine {

@@ -6,7 +6,7 @@ use Rattle.std.specs.List.{All}
 use Rattle.outside_io.specs.Causes.{Rose}
 use Rattle.outside_io.specs.Files.{Files, Lacks}
 use Rattle.forth_program.specs.Program.{SourceProgram}
-use Rattle.control_flow.specs.Outcome.{Outcome, Fine, Refused, NotBuilt, Endless}
+use Rattle.control_flow.specs.ParseResult.{ParseResult, Fine, Refused, NotBuilt, Endless}
 use Rattle.control_flow.specs.SourceText.{program_of_text}
 use Rattle.control_flow.specs.SourceLaw.{EachIsJudged, EachProgramIsSource}
 use Rattle.control_flow.specs.declared.refusal.SourceCause.{SourceCause}
@@ -14,11 +14,11 @@ use Rattle.control_flow.specs.declared.refusal.SourceRefusal.{SourceRefusal}
 use Rattle.forth_program.specs.declared.item.DefId.{DefId}
 use Rattle.depth_certifier.specs.declared.effect.CertCause.{CertCause}
 use Rattle.depth_certifier.specs.Certificate.{Cert, IsValid}
-use Rattle.depth_certifier.specs.Rounds.{Refusal, Refuses, ProperToken, RoundsEnd, RoundsFindTheLeast, RefusedHaveNone, OneRefusal}
+use Rattle.depth_certifier.specs.Rounds.{Refusal, RoundsRefuse, ProperToken, RoundsEnd, RoundsFindTheLeast, RefusedHaveNone, OneRefusal}
 use Rattle.j1_workbench.specs.declared.status.Status.{Status}
 use Rattle.j1_workbench.specs.declared.status.Status.TheVariants.{Done, BadWords, Missing, SourceRefused, NotCertified, StepsUsed, InputEnded, Outside, Halted, ReadFault, WriteFault, OutOfMemory, TooLarge, NotYet}
 use Rattle.j1_workbench.specs.Surroundings.{Stream, FolderState, Surroundings}
-use Rattle.j1_workbench.specs.Sources.{Holds, IsCertified, IsUncertified, IsRefusedText, IsRefusedSource}
+use Rattle.j1_workbench.specs.Sources.{HoldsFile, HasCertificate, IsUncertified, IsRefusedText, IsRefusedSource}
 use Rattle.j1_workbench.specs.Running.{IsRunAnswer, Runs}
 use Rattle.j1_workbench.specs.Certifying.{Writes, Certifies}
 use Rattle.j1_workbench.specs.Completeness.{Tells, FailsNowhere, IsComplete, IsJudged, AnswersAreComplete}
@@ -52,7 +52,7 @@ by_kind P text ReadFault name refused long faulty uncertified unbuilt = absurd r
 by_kind P text WriteFault name refused long faulty uncertified unbuilt = absurd refused
 by_kind P text OutOfMemory name refused long faulty uncertified unbuilt = absurd refused
 
-refused_not_certified : (text : List ℕ) (status : Status) (name : List ℕ) (p : SourceProgram) (z : Cert) → IsRefusedText text status name → IsCertified text p z → ⊥
+refused_not_certified : (text : List ℕ) (status : Status) (name : List ℕ) (p : SourceProgram) (z : Cert) → IsRefusedText text status name → HasCertificate text p z → ⊥
 refused_not_certified text status name p z refused c =
     by_kind (λ s. ⊥) text status name refused
     (λ long. clash text long c.short)
@@ -69,7 +69,7 @@ same_outcome text r s e f =
     let second : between ≡ s = ap (λ (c : SourceCause). record { token = s.token; cause = c }) causes in
     ap SourceRefused (first ∙ second)
 
-same_definition : (p : SourceProgram) (id other : DefId) (cause reason : CertCause) → OneRefusal → Refuses p (record { definition = id.0; reason = cause }) → Refuses p (record { definition = other.0; reason = reason }) →
+same_definition : (p : SourceProgram) (id other : DefId) (cause reason : CertCause) → OneRefusal → RoundsRefuse p (record { definition = id.0; reason = cause }) → RoundsRefuse p (record { definition = other.0; reason = reason }) →
     NotCertified id cause ≡ NotCertified other reason
 same_definition p id other cause reason one first second =
     let same = one p (record { definition = id.0; reason = cause }) (record { definition = other.0; reason = reason }) first second in
@@ -85,18 +85,18 @@ one_refusal one text status other name called first second =
     (λ long. by_kind (λ s. TooLarge ≡ s) text other called second (λ again. refl) (λ r short e. clash text long short) (λ id cause u. clash text long u.short) (λ short e. clash text long short))
     (λ r short e. by_kind (λ s. SourceRefused r ≡ s) text other called second (λ long. clash text long short) (λ s again f. same_outcome text r s e f) (λ id cause u. let f = u.program_is in cc) (λ again f. cc))
     (λ id cause u. by_kind (λ s. NotCertified id cause ≡ s) text other called second (λ long. clash text long u.short) (λ r short e. let f = u.program_is in cc)
-    (λ other reason v. same_definition u.program id other cause reason one u.refusal (subst (λ p. Refuses p (record { definition = other.0; reason = reason })) (same_program text v.program u.program v.program_is u.program_is) v.refusal))
+    (λ other reason v. same_definition u.program id other cause reason one u.refusal (subst (λ p. RoundsRefuse p (record { definition = other.0; reason = reason })) (same_program text v.program u.program v.program_is u.program_is) v.refusal))
     (λ short e. let f = u.program_is in cc))
     (λ short e. by_kind (λ s. NotYet ≡ s) text other called second (λ long. clash text long short) (λ r again f. cc) (λ id cause u. let f = u.program_is in cc) (λ again f. refl))
 
 -- ---- what a command finds in a file that is told
 
-told_text : (files : Option Files) (source text other : List ℕ) → Tells files source text → Holds files source other → other ≡ text
+told_text : (files : Option Files) (source text other : List ℕ) → Tells files source text → HoldsFile files source other → other ≡ text
 told_text None source text other told holds = absurd told
 told_text (Some files) source text other told holds = let e : Some other ≡ Some text = sym holds ∙ told in cc
 
 refused_text : (source text : List ℕ) (before : FolderState) (status : Status) (name : List ℕ) → Tells before.files source text →
-    (other : List ℕ) × Holds before.files source other × IsRefusedText other status name → (status ≡ OutOfMemory) ⊎ IsRefusedText text status name
+    (other : List ℕ) × HoldsFile before.files source other × IsRefusedText other status name → (status ≡ OutOfMemory) ⊎ IsRefusedText text status name
 refused_text source text before status name told found = inr (subst (λ t. IsRefusedText t status name) (told_text before.files source text found.0 told found.1) found.2)
 
 not_missing : (files : Option Files) (source text : List ℕ) → Tells files source text → Lacks files source → ⊥
@@ -128,7 +128,7 @@ by_refusal one text status name IsAnswer (inr found) = record {
   certified = λ p z c. absurd (refused_not_certified text status name p z found c);
 }
 
-by_certificate : (text : List ℕ) (status : Status) (IsAnswer : Status → Type 0) (p : SourceProgram) (z : Cert) → IsCertified text p z → IsAnswer status → IsComplete text status IsAnswer
+by_certificate : (text : List ℕ) (status : Status) (IsAnswer : Status → Type 0) (p : SourceProgram) (z : Cert) → HasCertificate text p z → IsAnswer status → IsComplete text status IsAnswer
 by_certificate text status IsAnswer p z found answer = record {
   refused = λ refusal called refused. absurd (refused_not_certified text refusal called p z refused found);
   certified = λ q y c. inr answer;
@@ -148,7 +148,7 @@ run_complete one source text steps before after status name (read, inl refused) 
     by_refusal one text status name IsRunAnswer (refused_source source text before.folder after.folder status name told calm.folder refused.0)
 run_complete one source text steps before after status name (read, inr ran) told calm =
     by_certificate text status IsRunAnswer ran.program ran.certificate
-    (subst (λ t. IsCertified t ran.program ran.certificate) (told_text before.folder.files source text ran.source_is.0 told ran.source_is.1) ran.source_is.2)
+    (subst (λ t. HasCertificate t ran.program ran.certificate) (told_text before.folder.files source text ran.source_is.0 told ran.source_is.1) ran.source_is.2)
     (run_answer status _ _ ran.drives.answered ran.drives.read_fault ran.drives.write_fault calm.console calm.out)
 
 done_answer : (program_text : List ℕ) (before after : Stream) (status : Status) → Writes before after program_text status → (Rose before.faults after.faults → ⊥) → status ≡ Done
@@ -174,7 +174,7 @@ certify_complete one source text before after status name (read, console, inl re
     by_refusal one text status name (λ s. s ≡ Done) (refused_source source text before.folder after.folder status name told calm.folder refused.0)
 certify_complete one source text before after status name (read, console, inr wrote) told calm =
     by_certificate text status (λ s. s ≡ Done) wrote.program wrote.certificate
-    (subst (λ t. IsCertified t wrote.program wrote.certificate) (told_text before.folder.files source text wrote.source_is.0 told wrote.source_is.1) wrote.source_is.2)
+    (subst (λ t. HasCertificate t wrote.program wrote.certificate) (told_text before.folder.files source text wrote.source_is.0 told wrote.source_is.1) wrote.source_is.2)
     (done_answer _ before.out after.out status wrote.writes calm.out)
 
 -- ---- each text is judged
@@ -193,7 +193,7 @@ judged_program end least none text p short is proper =
 no_tokens : (p : SourceProgram) → p.tokens ≡ [] → All ProperToken p.tokens
 no_tokens p none = subst (All ProperToken) (sym none) (λ k token below. absurd (omega (arith, below)))
 
-judged_outcome : EachIsJudged → EachProgramIsSource → RoundsEnd → RoundsFindTheLeast → RefusedHaveNone → (text : List ℕ) (outcome : Outcome SourceProgram) → program_of_text text ≡ outcome → length text ≤ 65536 → IsJudged text
+judged_outcome : EachIsJudged → EachProgramIsSource → RoundsEnd → RoundsFindTheLeast → RefusedHaveNone → (text : List ℕ) (outcome : ParseResult SourceProgram) → program_of_text text ≡ outcome → length text ≤ 65536 → IsJudged text
 judged_outcome each sources end least none text (Fine p) is short = judged_program end least none text p short is (no_tokens p (sources text p is).no_tokens)
 judged_outcome each sources end least none text (Refused token cause) is short = inl (SourceRefused (record { token = token; cause = cause }), [], (short, is))
 judged_outcome each sources end least none text NotBuilt is short = inl (NotYet, [], (short, is))

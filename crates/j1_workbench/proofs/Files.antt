@@ -4,21 +4,21 @@ use Rattle.std.proofs.lemmas.List.{take_all}
 use Rattle.std.specs.Prelude.{◌↔◌, [], Option, Some, None, option_map, slice_index_or, IsSome, IfSome, Result, Ok, Err, MatchResult}
 use Rattle.outside_io.specs.Files.{Files, HasFront}
 use Rattle.forth_program.specs.Program.{SourceProgram}
-use Rattle.forth_program.specs.Name.{IsName}
-use Rattle.control_flow.specs.Outcome.{Fine}
+use Rattle.forth_reader.specs.Name.{IsName}
+use Rattle.control_flow.specs.ParseResult.{Fine}
 use Rattle.control_flow.specs.SourceText.{program_of_text}
 use Rattle.depth_certifier.specs.declared.effect.CertCause.{CertCause}
 use Rattle.depth_certifier.specs.Certificate.{Cert, IsValid}
 use Rattle.depth_certifier.specs.declared.refused.CertError.{CertError}
 use Rattle.depth_certifier.specs.declared.refused.CertError.TheVariants.{NotCertified as NoCertificate}
-use Rattle.depth_certifier.specs.Rounds.{Refuses}
+use Rattle.depth_certifier.specs.Rounds.{RoundsRefuse}
 use Rattle.depth_certifier.specs.Settling.{IsRefusal}
 use Rattle.forth_program.specs.declared.item.DefId.{DefId}
 use Rattle.j1_workbench.specs.declared.status.Status.{Status}
 use Rattle.j1_workbench.specs.declared.status.Status.TheVariants.{Done, BadWords, Missing, SourceRefused, NotCertified, StepsUsed, InputEnded, Outside, Halted, ReadFault, WriteFault, OutOfMemory, TooLarge, NotYet}
 use Rattle.j1_workbench.specs.Notes.{named}
 use Rattle.j1_workbench.specs.Surroundings.{FolderState}
-use Rattle.j1_workbench.specs.Sources.{Holds, IsCertified, IsUncertified, IsCertifiedSource, IsRefusedText, IsRefusedSource}
+use Rattle.j1_workbench.specs.Sources.{HoldsFile, HasCertificate, IsUncertified, IsCertifiedSource, IsRefusedText, IsRefusedSource}
 
 some_same : {A : Type 0} (x y : A) → Some x ≡ Some y → x ≡ y
 some_same x y e = cc
@@ -28,7 +28,7 @@ has_content : (found : Option (List ℕ)) (front : List ℕ) → option_map (tak
 has_content None front read = cc
 has_content (Some text) front read = (text, refl, some_same _ _ read)
 
-content_of : (files : Option Files) (name front : List ℕ) → HasFront files name 65537 front → (text : List ℕ) × Holds files name text × (take 65537 text ≡ front ⊎ text ≡ front)
+content_of : (files : Option Files) (name front : List ℕ) → HasFront files name 65537 front → (text : List ℕ) × HoldsFile files name text × (take 65537 text ≡ front ⊎ text ≡ front)
 content_of None name front read = (front, tt, inr refl)
 content_of (Some files) name front read = let found = has_content (files name) front read in (found.0, found.1, inl found.2)
 
@@ -63,13 +63,13 @@ refused_as text front OutOfMemory name same refused = absurd refused
 
 -- what is found out of the bytes that were read holds of the file
 pub certified_file : (files : Option Files) (source front : List ℕ) (before : FolderState) (program : SourceProgram) (certificate : Cert) →
-    before.files ≡ files → HasFront files source 65537 front → IsCertified front program certificate → IsCertifiedSource source before program certificate
+    before.files ≡ files → HasFront files source 65537 front → HasCertificate front program certificate → IsCertifiedSource source before program certificate
 certified_file files source front before program certificate told read certified =
     let found = content_of files source front read in
-    (found.0, subst (λ f. Holds f source found.0) (sym told) found.1, subst (λ t. IsCertified t program certificate) (same_if_short found.0 front found.2 certified.short) certified)
+    (found.0, subst (λ f. HoldsFile f source found.0) (sym told) found.1, subst (λ t. HasCertificate t program certificate) (same_if_short found.0 front found.2 certified.short) certified)
 
 refused_file : (source front : List ℕ) (before : FolderState) (status : Status) (name : List ℕ) →
-    HasFront before.files source 65537 front → IsRefusedText front status name → (text : List ℕ) × Holds before.files source text × IsRefusedText text status name
+    HasFront before.files source 65537 front → IsRefusedText front status name → (text : List ℕ) × HoldsFile before.files source text × IsRefusedText text status name
 refused_file source front before status name read refused =
     let found = content_of before.files source front read in
     (found.0, found.1, refused_as found.0 front status name found.2 refused)
@@ -101,7 +101,7 @@ no_name some = cc
 
 -- a definition that is refused is named, since its name has the form of a name
 pub uncertified_text : (text : List ℕ) (program : SourceProgram) (error : CertError) (id : DefId) (cause : CertCause) (name : Option (List ℕ)) (told : List ℕ) →
-    length text ≤ 65536 → program_of_text text ≡ Fine program → error ≡ NoCertificate id cause → IsRefusal error (λ r. Refuses program r) → IsRefusal error (λ r. (z : Cert) → IsValid program z → ⊥) →
+    length text ≤ 65536 → program_of_text text ≡ Fine program → error ≡ NoCertificate id cause → IsRefusal error (λ r. RoundsRefuse program r) → IsRefusal error (λ r. (z : Cert) → IsValid program z → ⊥) →
     told ≡ slice_index_or program.names id.0 [] → (IsSome name ↔ IsName told) → IfSome name (λ n. n ≡ told) → IsName told →
     IsUncertified text id.0 cause (named name)
 uncertified_text text program error id cause None told short is known refused none same form value name = absurd (no_name (form.1 name))
@@ -109,7 +109,7 @@ uncertified_text text program error id cause (Some n) told short is known refuse
   program = program;
   short = short;
   program_is = is;
-  refusal = subst (λ e. IsRefusal e (λ r. Refuses program r)) known refused;
+  refusal = subst (λ e. IsRefusal e (λ r. RoundsRefuse program r)) known refused;
   none = subst (λ e. IsRefusal e (λ r. (z : Cert) → IsValid program z → ⊥)) known none;
   name_is = value ∙ same;
 }

@@ -1,6 +1,6 @@
-mod Appending
+mod SinkContents
 mod Digits
-mod Driving
+mod DriveResult
 mod Files
 mod Commands
 mod Built

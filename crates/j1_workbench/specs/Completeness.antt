@@ -7,7 +7,7 @@ use Rattle.depth_certifier.specs.Certificate.{Cert}
 use Rattle.j1_workbench.specs.declared.status.Status.{Status}
 use Rattle.j1_workbench.specs.declared.status.Status.TheVariants.{Done, OutOfMemory}
 use Rattle.j1_workbench.specs.Surroundings.{Surroundings}
-use Rattle.j1_workbench.specs.Sources.{IsCertified, IsRefusedText}
+use Rattle.j1_workbench.specs.Sources.{HasCertificate, IsRefusedText}
 use Rattle.j1_workbench.specs.Running.{IsRunAnswer, Runs}
 use Rattle.j1_workbench.specs.Certifying.{Certifies}
 
@@ -25,11 +25,11 @@ pub record FailsNowhere (before after : Surroundings) : Type 0 where
 -- memory was wanting; or a refused text has its refusal, and a certified one an answer of the command
 pub record IsComplete (text : List ℕ) (status : Status) (IsAnswer : Status → Type 0) : Type 0 where
   pub refused : (refusal : Status) (name : List ℕ) → IsRefusedText text refusal name → (status ≡ OutOfMemory) ⊎ (status ≡ refusal)
-  pub certified : (program : SourceProgram) (certificate : Cert) → IsCertified text program certificate → (status ≡ OutOfMemory) ⊎ IsAnswer status
+  pub certified : (program : SourceProgram) (certificate : Cert) → HasCertificate text program certificate → (status ≡ OutOfMemory) ⊎ IsAnswer status
 
 -- a text is refused, or certified
 abbrev pub IsJudged : List ℕ → Type 0
-IsJudged text = ((refusal : Status) × (name : List ℕ) × IsRefusedText text refusal name) ⊎ ((program : SourceProgram) × (certificate : Cert) × IsCertified text program certificate)
+IsJudged text = ((refusal : Status) × (name : List ℕ) × IsRefusedText text refusal name) ⊎ ((program : SourceProgram) × (certificate : Cert) × HasCertificate text program certificate)
 
 pub record AnswersAreComplete : Type 0 where
   pub each : (text : List ℕ) → IsJudged text

@@ -2,7 +2,7 @@
 use Rattle.std.specs.Prelude.{◌≡◌, ℕ, true, List}
 use Rattle.library_laws.specs.Bodies.{whole_library}
 use Rattle.forth_program.specs.Program.{SourceProgram}
-use Rattle.control_flow.specs.Outcome.{Fine}
+use Rattle.control_flow.specs.ParseResult.{Fine}
 use Rattle.control_flow.specs.SourceText.{program_of_text}
 use Rattle.depth_certifier.specs.Certificate.{Cert, IsValid}
 use Rattle.chip_laws.specs.Certified.{KeepsTight}

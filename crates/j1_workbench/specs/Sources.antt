@@ -3,26 +3,26 @@ use Rattle.std.specs.Prelude.{◌≡◌, ◌<◌, ◌≤◌, ℕ, List, [], leng
 use Rattle.outside_io.specs.Causes.{Rose}
 use Rattle.outside_io.specs.Files.{Files, Lacks}
 use Rattle.forth_program.specs.Program.{SourceProgram}
-use Rattle.control_flow.specs.Outcome.{Fine, Refused, NotBuilt}
+use Rattle.control_flow.specs.ParseResult.{Fine, Refused, NotBuilt}
 use Rattle.control_flow.specs.SourceText.{program_of_text}
 use Rattle.depth_certifier.specs.Certificate.{Cert, IsValid}
 use Rattle.depth_certifier.specs.declared.effect.CertCause.{CertCause}
-use Rattle.depth_certifier.specs.Rounds.{IsLeast, Refuses}
+use Rattle.depth_certifier.specs.Rounds.{IsLeast, RoundsRefuse}
 use Rattle.j1_workbench.specs.declared.status.Status.{Status}
 use Rattle.j1_workbench.specs.declared.status.Status.TheVariants.{Missing, SourceRefused, NotCertified, ReadFault, OutOfMemory, TooLarge, NotYet}
 use Rattle.j1_workbench.specs.Surroundings.{FolderState}
 
 -- the file has this content, where the folder tells its files
-abbrev pub Holds : Option Files → List ℕ → List ℕ → Type 0
-Holds None name content = ⊤
-Holds (Some files) name content = files name ≡ Some content
+abbrev pub HoldsFile : Option Files → List ℕ → List ℕ → Type 0
+HoldsFile None name content = ⊤
+HoldsFile (Some files) name content = files name ≡ Some content
 
 -- a source has at most 65,536 bytes
 abbrev pub IsShort : List ℕ → Type 0
 IsShort text = length text ≤ 65536
 
 -- a text has a program, and the program a certificate, of which this is the least
-pub record IsCertified (text : List ℕ) (program : SourceProgram) (certificate : Cert) : Type 0 where
+pub record HasCertificate (text : List ℕ) (program : SourceProgram) (certificate : Cert) : Type 0 where
   pub short : IsShort text
   pub program_is : program_of_text text ≡ Fine program
   pub least : IsLeast program certificate
@@ -32,7 +32,7 @@ pub record IsUncertified (text : List ℕ) (definition : ℕ) (cause : CertCause
   pub program : SourceProgram
   pub short : IsShort text
   pub program_is : program_of_text text ≡ Fine program
-  pub refusal : Refuses program (record { definition = definition; reason = cause })
+  pub refusal : RoundsRefuse program (record { definition = definition; reason = cause })
   pub none : (z : Cert) → IsValid program z → ⊥
   pub name_is : name ≡ slice_index_or program.names definition []
 
@@ -49,8 +49,8 @@ abbrev pub IsRefusedSource : List ℕ → FolderState → FolderState → Status
 IsRefusedSource source before after Missing name = Rose before.absences after.absences × Lacks before.files source
 IsRefusedSource source before after ReadFault name = Rose before.read_faults after.read_faults
 IsRefusedSource source before after OutOfMemory name = ⊤
-IsRefusedSource source before after status name = (text : List ℕ) × Holds before.files source text × IsRefusedText text status name
+IsRefusedSource source before after status name = (text : List ℕ) × HoldsFile before.files source text × IsRefusedText text status name
 
 -- the file has a text with this program and this least certificate
 abbrev pub IsCertifiedSource : List ℕ → FolderState → SourceProgram → Cert → Type 0
-IsCertifiedSource source before program certificate = (text : List ℕ) × Holds before.files source text × IsCertified text program certificate
+IsCertifiedSource source before program certificate = (text : List ℕ) × HoldsFile before.files source text × HasCertificate text program certificate

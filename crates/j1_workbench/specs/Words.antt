@@ -17,9 +17,9 @@ pub data Request : Type 0 where
   Make : (seed count : ℕ) → Request
 
 -- a file's name has 1 to 255 bytes, of which the first is no `-`
-abbrev pub is_name : List ℕ → Bool
-is_name [] = false
-is_name (first ∷ rest) = not (first == 45) && nat_lt (length rest) 255
+abbrev pub is_file_name : List ℕ → Bool
+is_file_name [] = false
+is_file_name (first ∷ rest) = not (first == 45) && nat_lt (length rest) 255
 
 -- no more words, or `--steps` and a number of at most most
 abbrev pub steps_of : ℕ → List (List ℕ) → Option (Option ℕ)
@@ -31,14 +31,14 @@ steps_of most words = None
 -- a name, and then perhaps steps
 abbrev pub name_and_steps : ℕ → (List ℕ → Option ℕ → Request) → List (List ℕ) → Option Request
 name_and_steps most form [] = None
-name_and_steps most form (name ∷ words) = if is_name name then option_map (λ steps. form name steps) (steps_of most words) else None
+name_and_steps most form (name ∷ words) = if is_file_name name then option_map (λ steps. form name steps) (steps_of most words) else None
 
 abbrev pub one_name : (List ℕ → Request) → List (List ℕ) → Option Request
-one_name form (name ∷ []) = if is_name name then Some (form name) else None
+one_name form (name ∷ []) = if is_file_name name then Some (form name) else None
 one_name form words = None
 
 abbrev pub two_names : (List ℕ → List ℕ → Request) → List (List ℕ) → Option Request
-two_names form (first ∷ second ∷ []) = if is_name first && is_name second then Some (form first second) else None
+two_names form (first ∷ second ∷ []) = if is_file_name first && is_file_name second then Some (form first second) else None
 two_names form words = None
 
 -- a seed below 65536, and a count of 1 to 200

@@ -1,10 +1,10 @@
 // Unsigned decimal numbers.
 ghost use Rattle.std.specs.Prelude.{◌≡◌, Some, None, nat_le, if◌then◌else◌};
 ghost use Rattle.std.specs.List.{list_all};
-ghost use Rattle.j1_workbench.specs.Numbers.{is_digit, is_number, number_in, value_from};
+ghost use Rattle.j1_workbench.specs.Numbers.{is_decimal_digit, is_number, number_in, value_from};
 
 fn are_digits(text: &[u8]) -> bool
-    ensures { result ≡ list_all is_digit text.now }
+    ensures { result ≡ list_all is_decimal_digit text.now }
 {
     text.iter().all(|byte| byte.is_ascii_digit())
 }

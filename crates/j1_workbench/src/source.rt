@@ -2,7 +2,7 @@
 ghost use Rattle.std.specs.Prelude.{◌≡◌, ◌⊎◌, MatchResult};
 ghost use Rattle.j1_workbench.specs.Notes.{named};
 ghost use Rattle.j1_workbench.specs.Surroundings.{folder, IsReadOnce};
-ghost use Rattle.j1_workbench.specs.Sources.{IsCertified, IsCertifiedSource, IsRefusedText, IsRefusedSource};
+ghost use Rattle.j1_workbench.specs.Sources.{HasCertificate, IsCertifiedSource, IsRefusedText, IsRefusedSource};
 
 use crate::answer::{Answer, answered};
 use crate::status::Status;
@@ -17,7 +17,7 @@ const MOST_SOURCE: usize = 65_536;
 
 // The program of a source text and its least certificate, or why the text is refused.
 fn certified_text(alloc: Global, text: &[u8]) -> Result<(Program, Certificate), Answer>
-    ensures { MatchResult result (λ found. IsCertified text.now found.0 found.1)
+    ensures { MatchResult result (λ found. HasCertificate text.now found.0 found.1)
         (λ answer. (answer.status ≡ Status.OutOfMemory) ⊎ IsRefusedText text.now answer.status (named answer.name)) }
 {
     if text.len() > MOST_SOURCE {

@@ -1,6 +1,6 @@
 // The words of a command line.
 ghost use Rattle.std.specs.Prelude.{◌≡◌, ℕ, List, Option, map, option_map, string_bytes};
-ghost use Rattle.j1_workbench.specs.Words.{is_name, steps_of, one_name, two_names, name_and_steps, make_of, request_for, request_of, Request, Run, Build, Execute, ListImage, Assemble, Certify, Evaluate, Forth, Make};
+ghost use Rattle.j1_workbench.specs.Words.{is_file_name, steps_of, one_name, two_names, name_and_steps, make_of, request_for, request_of, Request, Run, Build, Execute, ListImage, Assemble, Certify, Evaluate, Forth, Make};
 ghost use Rattle.j1_workbench.specs.Commands.{requested};
 
 use crate::numbers::number_in;
@@ -26,7 +26,7 @@ const MOST_WORD_STEPS: u32 = 20_000_000;
 
 // Whether a word can name a file.
 fn is_name(word: &[u8]) -> bool
-    ensures { result ≡ is_name word.now }
+    ensures { result ≡ is_file_name word.now }
 {
     match word {
         [] => false,

@@ -15,7 +15,7 @@ use std::alloc::Global;
 ///
 /// Files are read from `files`, a run takes its input from `console` one byte at a time and prints to `out`, and each
 /// status other than `Done` leaves its line in `notes`. Where that line cannot be written, the status is `WriteFault`.
-#[tactic(auto, using(crate::proofs::Appending::noted_ok, crate::proofs::Appending::noted_fault))]
+#[tactic(auto, using(crate::proofs::SinkContents::noted_ok, crate::proofs::SinkContents::noted_fault))]
 pub fn workbench<F: Folder, C: Source, O: Sink, N: Sink>(
     alloc: Global,
     words: &[String],

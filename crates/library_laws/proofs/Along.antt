@@ -5,7 +5,7 @@ use Rattle.word_table.specs.Table.{entry_of}
 use Rattle.forth_program.specs.Tree.{Nodes}
 use Rattle.forth_program.specs.State.{Work, Frame, World, State, Outcome, Goes, Ends}
 use Rattle.forth_program.specs.Program.{SourceProgram}
-use Rattle.forth_program.specs.Step.{first, step}
+use Rattle.forth_program.specs.Step.{first_work, step}
 use Rattle.forth_program.specs.Run.{steps, and_then}
 use Rattle.forth_program.specs.Heights.{entries_height, step_peak, back_of}
 use Rattle.library_laws.specs.Library.{entered, TakesNoMore}
@@ -18,12 +18,12 @@ module _ (high return_high base : ℕ) (p : SourceProgram) (fs : List Frame) whe
   keeps_step : (s : State) (w : Work) (ws : List Work) → s.work ≡ w ∷ ws → Stays high return_high base p fs s → Keeps high return_high base p fs (step p s)
   unfolding step
   keeps_step s w ws same st =
-      let f = subst (λ z. FirstLater high return_high (first z) st.0 st.1) (sym same) (work_first high return_high w ws st.0 st.1 (subst (λ z. Walks high return_high z st.0 st.1) same st.4)) in
+      let f = subst (λ z. FirstLater high return_high (first_work z) st.0 st.1) (sym same) (work_first high return_high w ws st.0 st.1 (subst (λ z. Walks high return_high z st.0 st.1) same st.4)) in
       let a = st.2 in
       let b = f.2 in
       let c = st.3 in
       let d = f.3 in
-      first_keeps high return_high base p fs (first s.work) s st.5 f.0 f.1 (omega (arith, a, b)) (omega (arith, c, d)) f.4
+      first_keeps high return_high base p fs (first_work s.work) s st.5 f.0 f.1 (omega (arith, a, b)) (omega (arith, c, d)) f.4
 
   along : (j : ℕ) (s u : State) → Stays high return_high base p fs s → steps p j s ≡ Goes u → ((i : ℕ) (v : State) → i < j → steps p i s ≡ Goes v → Busy v) → Stays high return_high base p fs u
   unfolding steps
@@ -35,10 +35,10 @@ module _ (high return_high base : ℕ) (p : SourceProgram) (fs : List Frame) whe
       through (Goes s') x k f more = more s' x k f (λ i v h g. busy (suc i) v (omega (arith, h)) (ap (λ z. and_then z (steps p i)) x ∙ g))
       through (Ends end w) x k f more = let no : ⊥ = cc in absurd no
 
-  fits : (u : State) → Stays high return_high base p fs u → (b : Busy u) → (length u.cells + step_peak (first u.work) ≤ base + high) × (1 + entries_height u.entries + back_of (first u.work) ≤ return_high)
+  fits : (u : State) → Stays high return_high base p fs u → (b : Busy u) → (length u.cells + step_peak (first_work u.work) ≤ base + high) × (1 + entries_height u.entries + back_of (first_work u.work) ≤ return_high)
   fits u st b =
-      let f = subst (λ z. FirstLater high return_high (first z) st.0 st.1) (sym b.2) (work_first high return_high b.0 b.1 st.0 st.1 (subst (λ z. Walks high return_high z st.0 st.1) b.2 st.4)) in
-      let g = first_fits high return_high (first u.work) f.0 f.1 f.4 in
+      let f = subst (λ z. FirstLater high return_high (first_work z) st.0 st.1) (sym b.2) (work_first high return_high b.0 b.1 st.0 st.1 (subst (λ z. Walks high return_high z st.0 st.1) b.2 st.4)) in
+      let g = first_fits high return_high (first_work u.work) f.0 f.1 f.4 in
       let a = st.2 in
       let b' = f.2 in
       let c = st.3 in

@@ -20,7 +20,7 @@ use Rattle.library_laws.proofs.Floors.{slash_mod, slash, modulus, star_slash_mod
 use Rattle.library_laws.proofs.Pictures.{less_sharp, holds, signs, sharp, sharp_greater}
 use Rattle.library_laws.proofs.Digits.{sharp_s, dot, u_dot}
 use Rattle.library_laws.proofs.ByteLoops.{type_out_comes, spaces_comes, fill_comes, move_comes}
-use Rattle.library_laws.proofs.Accepting.{accept_comes}
+use Rattle.library_laws.proofs.AcceptBody.{accept_comes}
 use Rattle.library_laws.proofs.Numbers.{to_number_comes}
 
 pub definitions_do : (word : Word) → has_definition word ≡ true → DefinitionDoes (body_of_word word) word

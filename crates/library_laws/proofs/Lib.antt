@@ -15,10 +15,10 @@ pub mod Floored
 pub mod Floors
 pub mod Plain
 pub mod ByteLoops
-pub mod Accepting
+pub mod AcceptBody
 pub mod Pictures
 pub mod HoldBuffer
 pub mod Digits
 pub mod Numbers
-pub mod Leaving
+pub mod LeftCells
 pub mod Definitions

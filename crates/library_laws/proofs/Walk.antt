@@ -8,7 +8,7 @@ use Rattle.word_table.specs.Table.{entry_of}
 use Rattle.forth_program.specs.Tree.{Node, Nodes, Literal, Plain, If, Until, While, Do, Empty, Then}
 use Rattle.forth_program.specs.State.{Entry, Cell, Loop, Work, Todo, TrueEnd, UntilTest, WhileTest, Repeat, Turn, Frame, State, Reply, Gives, Stops, Outcome, Goes, Ends}
 use Rattle.forth_program.specs.Program.{SourceProgram}
-use Rattle.forth_program.specs.Step.{First, IsLiteral, IsWord, IsIf, IsTrueEnd, IsUntil, IsWhile, IsRepeat, IsDo, IsTurn, first, first_in, first_among, before, closed_by, act, word_step, on_cells, on_flag, loop_begins, turned, crosses}
+use Rattle.forth_program.specs.Step.{First, IsLiteral, IsWord, IsIf, IsTrueEnd, IsUntil, IsWhile, IsRepeat, IsDo, IsTurn, first_work, first_in, first_among, before, closed_by, act, word_step, on_cells, on_flag, loop_begins, turned, crosses}
 use Rattle.forth_program.specs.Meaning.{meaning}
 use Rattle.forth_program.specs.Heights.{entries_height, step_peak, back_of}
 use Rattle.library_laws.proofs.Lengths.{raised, changed, AtMost, leaves_at_most}
@@ -202,7 +202,7 @@ module _ (high return_high : ℕ) where
         node_first node (before rest work) d r o.0 o.1 (walks_before rest work o.0.0 o.0.1 x o.2 w)
 
   -- what stands first
-  pub work_first : (work : Work) (after : List Work) (d r : ℕ) → Walks (work ∷ after) d r → FirstLater (first (work ∷ after)) d r
+  pub work_first : (work : Work) (after : List Work) (d r : ℕ) → Walks (work ∷ after) d r → FirstLater (first_work (work ∷ after)) d r
   work_first (Todo node) after d r w = node_first node after d r w.0 w.1 w.2
   work_first TrueEnd after d r w = (d, r, omega arith, omega arith, w)
   work_first (UntilTest body) after d r w = (d, r, omega arith, omega arith, w)

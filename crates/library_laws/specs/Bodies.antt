@@ -125,9 +125,9 @@ bodies_of [] = []
 bodies_of (word ∷ words) = body_of_word word ∷ bodies_of words
 
 -- the names of their definitions: each has `~` before the word's, so that no body finds one of them
-abbrev pub names_of : List Word → List (List ℕ)
-names_of [] = []
-names_of (word ∷ words) = (codes "~" ++ name_of word) ∷ names_of words
+abbrev pub definition_names : List Word → List (List ℕ)
+definition_names [] = []
+definition_names (word ∷ words) = (codes "~" ++ name_of word) ∷ definition_names words
 
 -- the bodies of the whole library, the first text before the second
 abbrev pub whole_library : List Nodes

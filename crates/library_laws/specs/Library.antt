@@ -8,7 +8,7 @@ use Rattle.forth_program.specs.Tree.{Nodes, Empty}
 use Rattle.forth_program.specs.State.{World, Frame, Work, State, Outcome, Goes}
 use Rattle.forth_program.specs.Program.{SourceProgram}
 use Rattle.forth_program.specs.Meaning.{meaning}
-use Rattle.forth_program.specs.Step.{first, before, on_cells}
+use Rattle.forth_program.specs.Step.{first_work, before, on_cells}
 use Rattle.forth_program.specs.Run.{steps}
 use Rattle.forth_program.specs.Price.{spent, word_price}
 use Rattle.library_laws.specs.Bodies.{body_of_word, bodies_of, has_definition}
@@ -34,8 +34,8 @@ pub record TakesNoMore (word : Word) (begins : ℕ) (below : List Frame) (s : St
   pub after : List Work
   pub busy : s.work ≡ work ∷ after
   pub callers : s.callers ≡ below
-  pub cells : length s.cells + step_peak (first s.work) ≤ begins + (entry_of word).peak
-  pub returns : 1 + entries_height s.entries + back_of (first s.work) ≤ (entry_of word).back
+  pub cells : length s.cells + step_peak (first_work s.work) ≤ begins + (entry_of word).peak
+  pub returns : 1 + entries_height s.entries + back_of (first_work s.work) ≤ (entry_of word).back
 
 -- the run of a definition comes to what the word means, by word steps of the definition. Their prices with those of its call and of
 -- its end are at most a price, and each stays within the word's peak and back

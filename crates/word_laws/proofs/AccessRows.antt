@@ -10,7 +10,7 @@ use Rattle.forth_program.specs.Access.{taken, fetch_by, store_by, fetch, store}
 use Rattle.forth_program.specs.Step.{on_cells}
 use Rattle.j1_simulator.specs.Effect.{effect, following}
 use Rattle.j1_simulator.specs.Step.{Asks, fetched, stored, goes_on}
-use Rattle.j1_simulator.specs.OpenMachine.{open_storage, first}
+use Rattle.j1_simulator.specs.OpenMachine.{open_storage, top_cell}
 use Rattle.j1_simulator.specs.Run.{with_outcome}
 use Rattle.word_laws.specs.Rings.{OpenConfiguration}
 use Rattle.word_laws.specs.Standing.{data_places, return_places, standing}
@@ -54,7 +54,7 @@ module _ (code : List ℕ) (base : List (Option ℕ)) (s : State) where
         (feed o.data_start (decoded 0x6103 ∷ []) (with_outcome (effect pc (decoded 0x6023)) (goes_on open_storage (effect pc (decoded 0x6023)) (standing code pc (a ∷ v ∷ c) (return_places s.entries base) da ra d b o).core (stored open_storage (Some a) v (code ++ o.space) x)) (standing code pc (a ∷ v ∷ c) (return_places s.entries base) da ra d b o)))
         (on_cells (store_by o v x ▸ λ _. Gives c) s)
     store_by_row (met.Data i) pc a v c da ra d b h =
-        (_, _, ap (λ m. remembering m (standing code (following (following pc)) c (return_places s.entries base) (first (data_places c) ∷ Some v ∷ da) ra (d +ℤ negsuc 0 +ℤ negsuc 0) (b +ℤ pos 0 +ℤ pos 0) o)) (set-append_right code o.space (o.data_start / 2) i v size h))
+        (_, _, ap (λ m. remembering m (standing code (following (following pc)) c (return_places s.entries base) (top_cell (data_places c) ∷ Some v ∷ da) ra (d +ℤ negsuc 0 +ℤ negsuc 0) (b +ℤ pos 0 +ℤ pos 0) o)) (set-append_right code o.space (o.data_start / 2) i v size h))
     store_by_row met.Print pc a v c da ra d b h = (_, _, refl)
     store_by_row met.Halt pc a v c da ra d b h = record { stop_is = refl; memory = refl; input = refl; printed = refl }
     store_by_row (met.Outside address) pc a v c da ra d b h = record { stop_is = refl; memory = refl; input = refl; printed = refl }

@@ -10,24 +10,24 @@ use Rattle.j1_simulator.specs.declared.ends.End.TheVariants as chip
 use Rattle.j1_simulator.specs.Run.{run}
 use Rattle.j1_simulator.specs.Effect.{effect, following}
 use Rattle.j1_simulator.specs.Step.{By, effect_at}
-use Rattle.j1_simulator.specs.OpenMachine.{first, rest, open_storage}
-use Rattle.j1_simulator.specs.Run.{made}
+use Rattle.j1_simulator.specs.OpenMachine.{top_cell, rest, open_storage}
+use Rattle.j1_simulator.specs.Run.{after_effect}
 use Rattle.word_laws.specs.Rings.{OpenConfiguration, WritesAbove, writes_return}
-use Rattle.word_laws.specs.Standing.{data_places, return_places, standing, counted, standing_as, EndedIn}
-use Rattle.word_laws.specs.Control.{Holds, LeadsTo, JumpLeads, CallLeads, ReturnLeads, BranchLeads, BranchPasses, halt_cells, HaltEnds}
+use Rattle.word_laws.specs.Standing.{data_places, return_places, standing, standing_at_depths, standing_as, EndedIn}
+use Rattle.word_laws.specs.Control.{HoldsInstruction, LeadsTo, JumpLeads, CallLeads, ReturnLeads, BranchLeads, BranchPasses, halt_cells, HaltEnds}
 use Rattle.word_laws.proofs.Steps.{effect_here}
 use Rattle.word_laws.proofs.Heights.{counter_moves}
 use Rattle.word_laws.proofs.Rows.{feed}
-use Rattle.word_laws.proofs.Running.{height_places, height_length, has_all, row_comes, row_stays, row_ends, within_widens, each_widens}
+use Rattle.word_laws.proofs.CellRows.{height_places, height_length, has_all, row_comes, row_stays, row_ends, within_widens, each_widens}
 
 -- an instruction of a known effect
-leads : (data_start : ℕ) (i : Instr) (pc : ℕ) (code c : List ℕ) (r da ra : List (Option ℕ)) (o : World) (to : OpenConfiguration) → Holds code pc i →
-    made None open_storage data_start (effect pc i) (counted code pc c r da ra o) ≡ to → WritesAbove (effect pc i).data_move (effect pc i).t_to_n → WritesAbove (effect pc i).return_move (writes_return (effect pc i).return_write) →
-    LeadsTo data_start (length c) (length r) (counted code pc c r da ra o) to
+leads : (data_start : ℕ) (i : Instr) (pc : ℕ) (code c : List ℕ) (r da ra : List (Option ℕ)) (o : World) (to : OpenConfiguration) → HoldsInstruction code pc i →
+    after_effect None open_storage data_start (effect pc i) (standing_at_depths code pc c r da ra o) ≡ to → WritesAbove (effect pc i).data_move (effect pc i).t_to_n → WritesAbove (effect pc i).return_move (writes_return (effect pc i).return_write) →
+    LeadsTo data_start (length c) (length r) (standing_at_depths code pc c r da ra o) to
 leads data_start i pc code c r da ra o to has e cd cb =
-    let same : effect_at (counted code pc c r da ra o).core ≡ effect pc i = effect_here code (counted code pc c r da ra o) i (o.space, refl) has.0 has.1 in
+    let same : effect_at (standing_at_depths code pc c r da ra o).core ≡ effect pc i = effect_here code (standing_at_depths code pc c r da ra o) i (o.space, refl) has.0 has.1 in
     record {
-      makes = ap (λ f. made None open_storage data_start f (counted code pc c r da ra o)) same ∙ e;
+      makes = ap (λ f. after_effect None open_storage data_start f (standing_at_depths code pc c r da ra o)) same ∙ e;
       bounds = (
         record {
           depth = length c;
@@ -48,7 +48,7 @@ leads data_start i pc code c r da ra o to has e cd cb =
     }
 
 -- counters under their names
-named : (code : List ℕ) (pc : ℕ) (c : List ℕ) (r da ra : List (Option ℕ)) (d b : ℤ) (o : World) → d ≡ pos (length c) → b ≡ pos (length r) → standing code pc c r da ra d b o ≡ counted code pc c r da ra o
+named : (code : List ℕ) (pc : ℕ) (c : List ℕ) (r da ra : List (Option ℕ)) (d b : ℤ) (o : World) → d ≡ pos (length c) → b ≡ pos (length r) → standing code pc c r da ra d b o ≡ standing_at_depths code pc c r da ra o
 named code pc c r da ra d b o e f = ap (λ z. standing code pc c r da ra z b o) e ∙ ap (λ z. standing code pc c r da ra (pos (length c)) z o) f
 
 still : (n : ℕ) → pos n +ℤ pos 0 ≡ pos n
@@ -74,13 +74,13 @@ return_leads data_start address pc code c r da ra o has =
 
 pub branch_leads : BranchLeads
 branch_leads data_start target pc code c r da ra o has =
-    leads data_start (Branch target) pc code (0 ∷ c) r da ra o _ has (named code target c r (first (data_places c) ∷ da) ra _ _ o (down_one (length c)) (still (length r))) tt tt
+    leads data_start (Branch target) pc code (0 ∷ c) r da ra o _ has (named code target c r (top_cell (data_places c) ∷ da) ra _ _ o (down_one (length c)) (still (length r))) tt tt
 
 pub branch_passes : BranchPasses
 branch_passes data_start target pc n code c r da ra o has =
     leads data_start (Branch target) pc code (suc n ∷ c) r da ra o _ has
-    (ap (λ b. standing code (if b then target else following pc) c r (first (data_places c) ∷ da) ra (pos (suc (length c)) +ℤ negsuc 0) (pos (length r) +ℤ pos 0) o) (not_zero n)
-    ∙ named code (following pc) c r (first (data_places c) ∷ da) ra _ _ o (down_one (length c)) (still (length r))) tt tt
+    (ap (λ b. standing code (if b then target else following pc) c r (top_cell (data_places c) ∷ da) ra (pos (suc (length c)) +ℤ negsuc 0) (pos (length r) +ℤ pos 0) o) (not_zero n)
+    ∙ named code (following pc) c r (top_cell (data_places c) ∷ da) ra _ _ o (down_one (length c)) (still (length r))) tt tt
   where
     not_zero : (v : ℕ) → (suc v == 0) ≡ false
     not_zero v = ⊎_elim (λ t. absurd (omega (arith, t.1))) (λ t. t.0) (eqb_tells (suc v) 0)

@@ -6,7 +6,7 @@ use Rattle.j1_simulator.specs.declared.effects.NewTop.TheVariants.{Number, Opera
 use Rattle.j1_simulator.specs.declared.effects.ReturnWrite.{ReturnWrite}
 use Rattle.j1_simulator.specs.declared.effects.ReturnWrite.TheVariants.{Nothing, OldTop, ReturnTo}
 use Rattle.j1_simulator.specs.Step.{operated, new_top_of, data_after, return_after}
-use Rattle.j1_simulator.specs.OpenMachine.{Tape, first, rest, open_storage}
+use Rattle.j1_simulator.specs.OpenMachine.{Tape, top_cell, rest, open_storage}
 use Rattle.word_laws.specs.Rings.{KnownWithin, WritesAbove, writes_return}
 use Rattle.word_laws.proofs.Walk.{counted_to, pops, data_height, return_height, has_place}
 
@@ -40,13 +40,13 @@ height_rest (suc h) (c ∷ cells) k = k
 height_cons : (h : ℕ) (c : Option ℕ) (cells : List (Option ℕ)) → KnownWithin h cells → KnownWithin (suc h) (c ∷ cells)
 height_cons h c cells k = k
 
-height_first : (h : ℕ) (cells : List (Option ℕ)) → KnownWithin h cells → KnownWithin h (first cells ∷ rest cells)
+height_first : (h : ℕ) (cells : List (Option ℕ)) → KnownWithin h cells → KnownWithin h (top_cell cells ∷ rest cells)
 height_first zero [] k = (refl, tt)
 height_first (suc zero) [] k = tt
 height_first (suc (suc h)) [] k = tt
 height_first h (c ∷ cells) k = k
 
-pub data_moves : (pop writes : Bool) (move : ℤ) (r x x' : ℕ) (t v : Option ℕ) (tape : Tape) → data_height pop writes move x ≡ Some x' → (pop ≡ true → v ≡ first tape.below) → KnownWithin (r + x) (t ∷ tape.below) → KnownWithin (r + x') (v ∷ (data_after open_storage writes move t tape).below)
+pub data_moves : (pop writes : Bool) (move : ℤ) (r x x' : ℕ) (t v : Option ℕ) (tape : Tape) → data_height pop writes move x ≡ Some x' → (pop ≡ true → v ≡ top_cell tape.below) → KnownWithin (r + x) (t ∷ tape.below) → KnownWithin (r + x') (v ∷ (data_after open_storage writes move t tape).below)
 data_moves pop true (pos (suc zero)) r x x' t v tape e n h =
     let q : suc x ≡ x' = cc in height_le (suc (r + x)) (r + x') (v ∷ t ∷ tape.below) (omega arith) (height_cons (r + x) v (t ∷ tape.below) h)
 data_moves true true (pos zero) r x x' t v tape e n h = stay_write r x x' t v tape (some_is (max 2 x) x' e) h
@@ -65,7 +65,7 @@ data_moves false false (pos zero) r x x' t v tape e n h =
 data_moves true false (negsuc zero) r x x' t v tape e n h =
     let q : pred x ≡ x' = cc in
     subst (λ z. KnownWithin (r + x') (z ∷ rest tape.below)) (sym (n refl))
-    (height_le (pred (r + x)) (r + x') (first tape.below ∷ rest tape.below) (omega arith) (height_first (pred (r + x)) tape.below (height_rest (r + x) (t ∷ tape.below) h)))
+    (height_le (pred (r + x)) (r + x') (top_cell tape.below ∷ rest tape.below) (omega arith) (height_first (pred (r + x)) tape.below (height_rest (r + x) (t ∷ tape.below) h)))
 data_moves false false (negsuc zero) r x x' t v tape e n h =
     let q : max 1 (pred x) ≡ x' = cc in height_le (suc (pred (pred (r + x)))) (r + x') (v ∷ rest tape.below) (omega arith) (height_rest (pred (r + x)) tape.below (height_rest (r + x) (t ∷ tape.below) h))
 data_moves pop writes move r x x' t v tape e n h = let q : None ≡ Some x' = e in cc

@@ -1,5 +1,5 @@
 pub mod Stacks
-pub mod Ringing
+pub mod BothMachines
 pub mod Refuted
 pub mod Samples
 pub mod Accesses
@@ -11,11 +11,11 @@ pub mod WordWalks
 pub mod Steps
 pub mod Heights
 pub mod Straight
-pub mod Running
+pub mod CellRows
 pub mod Needs
-pub mod Leaving
+pub mod WordCells
 pub mod Exits
 pub mod Meanings
 pub mod NumberRows
-pub mod Joining
+pub mod RunParts
 pub mod ControlRows

@@ -19,7 +19,7 @@ use Rattle.word_laws.proofs.Walk.{word_stays}
 use Rattle.word_laws.proofs.WordWalks.{words_stay, ends_stay}
 use Rattle.word_laws.proofs.WordRows.{word_row, Row}
 use Rattle.word_laws.proofs.Needs.{finds}
-use Rattle.word_laws.proofs.Running.{MayEnd, has_all, row_comes, row_stays, row_ends, within_widens, each_widens}
+use Rattle.word_laws.proofs.CellRows.{MayEnd, has_all, row_comes, row_stays, row_ends, within_widens, each_widens}
 
 -- an end for another cause than a lack
 may_end : (x : Outcome) → lacks x ≡ false → MayEnd x

@@ -15,7 +15,7 @@ use Rattle.word_laws.specs.Standing.{return_places, standing, standing_as, HasCo
 use Rattle.word_laws.specs.Numbers.{NumbersDoTheirMeaning, NumbersKeepTheirBounds}
 use Rattle.word_laws.proofs.Rows.{literal_of, feed, past, data_past, return_past, HasAll}
 use Rattle.word_laws.proofs.Walk.{stays}
-use Rattle.word_laws.proofs.Running.{row_comes, row_stays, each_widens}
+use Rattle.word_laws.proofs.CellRows.{row_comes, row_stays, each_widens}
 
 -- the instructions of a number, by its size
 abbrev number_instructions : Bool → ℕ → List Instr

@@ -12,9 +12,9 @@ use Rattle.forth_program.specs.State.{World, Outcome, Goes, Ends}
 use Rattle.j1_simulator.specs.Effect.{effect, following}
 use Rattle.j1_simulator.specs.Step.{Stop}
 use Rattle.j1_simulator.specs.OpenMachine.{open_storage}
-use Rattle.j1_simulator.specs.Run.{made}
+use Rattle.j1_simulator.specs.Run.{after_effect}
 use Rattle.word_laws.specs.Rings.{OpenConfiguration}
-use Rattle.word_laws.specs.Control.{Holds}
+use Rattle.word_laws.specs.Control.{HoldsInstruction}
 use Rattle.word_laws.specs.Standing.{return_places, standing, machine_end, EndedIn}
 
 -- of a word, where data space begins at an address
@@ -49,7 +49,7 @@ instructions_are data_start word = refl
 -- each instruction by its effect, without its fetch
 abbrev pub feed : ℕ → List Instr → OpenConfiguration → OpenConfiguration
 feed data_start [] w = w
-feed data_start (i ∷ is) w = feed data_start is (made w.stop open_storage data_start (effect w.core.pc i) w)
+feed data_start (i ∷ is) w = feed data_start is (after_effect w.stop open_storage data_start (effect w.core.pc i) w)
 
 -- the place after a row, and both counters
 abbrev pub past : ℕ → List Instr → ℕ
@@ -67,7 +67,7 @@ return_past b (i ∷ is) = return_past (b +ℤ (effect 0 i).return_move) is
 -- these instructions stand in code from one place to another
 abbrev pub HasAll : List ℕ → ℕ → List Instr → ℕ → Type 0
 HasAll code pc [] q = pc ≡ q
-HasAll code pc (i ∷ is) q = Holds code pc i × HasAll code (following pc) is q
+HasAll code pc (i ∷ is) q = HoldsInstruction code pc i × HasAll code (following pc) is q
 
 -- what is owed only where a test holds
 abbrev pub When : Bool → Type 0 → Type 0

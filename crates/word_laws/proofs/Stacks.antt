@@ -5,7 +5,7 @@ use Rattle.std.proofs.Math.IntN.{sub_ℕ}
 use Rattle.std.proofs.lemmas.Bool.{cases_lt}
 use Rattle.std.proofs.lemmas.Bool.Decides.{leb_tells}
 use Rattle.std.proofs.lemmas.List.{get_or-set_same, get_or-set_other}
-use Rattle.j1_simulator.specs.OpenMachine.{Tape, first, rest, tape_moved, tape_put}
+use Rattle.j1_simulator.specs.OpenMachine.{Tape, top_cell, rest, tape_moved, tape_put}
 use Rattle.j1_simulator.specs.RoundMachine.{RingCells, around, ring_moved, ring_put}
 use Rattle.word_laws.specs.Rings.{KnownWithin, CellAgrees, StackAgrees, place_below}
 
@@ -34,7 +34,7 @@ around_still : (z : ℤ) → around (z +ℤ pos 0) ≡ around z
 around_still (pos n) = omega arith
 around_still (negsuc n) = ⊎_elim (λ t. t.1 ∙ omega (arith, t.0)) (λ t. t.1 ∙ omega (arith, t.0)) (around_sub 0 (suc n))
 
-pub nth_first : (cells : List (Option ℕ)) → get_or cells 0 None ≡ first cells
+pub nth_first : (cells : List (Option ℕ)) → get_or cells 0 None ≡ top_cell cells
 nth_first [] = refl
 nth_first (c ∷ cells) = refl
 

@@ -11,9 +11,9 @@ use Rattle.console_ports.specs.declared.ports.Access.TheVariants.{Data, Print, K
 use Rattle.j1_simulator.specs.declared.effects.Effect.{Effect}
 use Rattle.j1_simulator.specs.declared.ends.End.TheVariants as ends
 use Rattle.j1_simulator.specs.declared.effects.Output.{Output}
-use Rattle.j1_simulator.specs.Step.{Stop, By, Missing, Reach, Reaches, Asks, Stops, Goes, Takes, Ends, if_known, effect_at, fetched, stored, exchanged, accesses, next_pc, moved_on, goes_on}
-use Rattle.j1_simulator.specs.OpenMachine.{first, open_storage}
-use Rattle.j1_simulator.specs.Run.{made, with_outcome, taken_on}
+use Rattle.j1_simulator.specs.Step.{Stop, By, Missing, Reach, Reaches, Asks, Faults, Advances, Takes, Terminates, if_known, effect_at, fetched, stored, exchanged, accesses, next_pc, moved_on, goes_on}
+use Rattle.j1_simulator.specs.OpenMachine.{top_cell, open_storage}
+use Rattle.j1_simulator.specs.Run.{after_effect, with_outcome, taken_on}
 use Rattle.word_laws.specs.Rings.{OpenConfiguration}
 use Rattle.word_laws.proofs.Accesses.{Stores, stores}
 
@@ -24,7 +24,7 @@ Kept data_start old new = (new ≡ old) ⊎ ((i : ℕ) × (v : ℕ) × (data_sta
 abbrev KeptBy : ℕ → List ℕ → Reach (Option ℕ) → Type 0
 KeptBy data_start old (Reaches cell new output) = Kept data_start old new
 KeptBy data_start old Asks = Unit {0}
-KeptBy data_start old (Stops stop) = Unit {0}
+KeptBy data_start old (Faults stop) = Unit {0}
 
 fetched_kept : (data_start : ℕ) (m : List ℕ) (x : Access) → KeptBy data_start m (fetched open_storage m x)
 fetched_kept data_start m (Data i) = inl refl
@@ -75,11 +75,11 @@ taken_moves : (data_start pc : ℕ) (e : Effect) (w : OpenConfiguration) (i : Li
 taken_moves data_start pc e w [] = inl (By ends.InputEnded, refl)
 taken_moves data_start pc e w (byte ∷ i) = inr (record { cell = Some byte; memory = w.core.memory; kept = inl refl; core = refl; data_depth = refl; return_depth = refl })
 
-goes_moves : (data_start : ℕ) (e : Effect) (w : OpenConfiguration) (p : Option ℕ) (cell : Option ℕ) (memory : List ℕ) (output : Output) → Kept data_start w.core.memory memory → EndsOrMoves data_start p e w (with_outcome e (if_known p (Ends Missing) (λ pc. Goes (moved_on open_storage e w.core pc cell memory) output)) w)
+goes_moves : (data_start : ℕ) (e : Effect) (w : OpenConfiguration) (p : Option ℕ) (cell : Option ℕ) (memory : List ℕ) (output : Output) → Kept data_start w.core.memory memory → EndsOrMoves data_start p e w (with_outcome e (if_known p (Terminates Missing) (λ pc. Advances (moved_on open_storage e w.core pc cell memory) output)) w)
 goes_moves data_start e w None cell memory output k = (Missing, refl)
 goes_moves data_start e w (Some pc) cell memory output k = inr (record { cell = cell; memory = memory; kept = k; core = refl; data_depth = refl; return_depth = refl })
 
-asks_moves : (data_start : ℕ) (e : Effect) (w : OpenConfiguration) (p : Option ℕ) → EndsOrMoves data_start p e w (with_outcome e (if_known p (Ends Missing) (λ pc. Takes (λ byte. moved_on open_storage e w.core pc (Some byte) w.core.memory))) w)
+asks_moves : (data_start : ℕ) (e : Effect) (w : OpenConfiguration) (p : Option ℕ) → EndsOrMoves data_start p e w (with_outcome e (if_known p (Terminates Missing) (λ pc. Takes (λ byte. moved_on open_storage e w.core pc (Some byte) w.core.memory))) w)
 asks_moves data_start e w None = (Missing, refl)
 asks_moves data_start e w (Some pc) = taken_moves data_start pc e w w.input
 
@@ -87,14 +87,14 @@ stops_moves : (data_start : ℕ) (e : Effect) (w : OpenConfiguration) (p : Optio
 stops_moves data_start e w None s = (s, refl)
 stops_moves data_start e w (Some pc) s = inl (s, refl)
 
-reach_moves : (data_start : ℕ) (e : Effect) (w : OpenConfiguration) (x : Reach (Option ℕ)) → KeptBy data_start w.core.memory x → EndsOrMoves data_start (next_pc open_storage e.next w.core.pc w.core.t (first w.core.return_stack.below)) e w (with_outcome e (goes_on open_storage e w.core x) w)
-reach_moves data_start e w (Stops s) k = stops_moves data_start e w _ s
+reach_moves : (data_start : ℕ) (e : Effect) (w : OpenConfiguration) (x : Reach (Option ℕ)) → KeptBy data_start w.core.memory x → EndsOrMoves data_start (next_pc open_storage e.next w.core.pc w.core.t (top_cell w.core.return_stack.below)) e w (with_outcome e (goes_on open_storage e w.core x) w)
+reach_moves data_start e w (Faults s) k = stops_moves data_start e w _ s
 reach_moves data_start e w (Reaches cell memory output) k = goes_moves data_start e w _ cell memory output k
 reach_moves data_start e w Asks k = asks_moves data_start e w _
 
 -- each instruction of a machine that goes on
-pub made_moves : (data_start : ℕ) (e : Effect) (w : OpenConfiguration) → EndsOrMoves data_start (next_pc open_storage e.next w.core.pc w.core.t (first w.core.return_stack.below)) e w (made None open_storage data_start e w)
-made_moves data_start e w = reach_moves data_start e w _ (accesses_kept data_start e.fetches e.stores w.core.memory w.core.t (first w.core.data_stack.below))
+pub made_moves : (data_start : ℕ) (e : Effect) (w : OpenConfiguration) → EndsOrMoves data_start (next_pc open_storage e.next w.core.pc w.core.t (top_cell w.core.return_stack.below)) e w (after_effect None open_storage data_start e w)
+made_moves data_start e w = reach_moves data_start e w _ (accesses_kept data_start e.fetches e.stores w.core.memory w.core.t (top_cell w.core.data_stack.below))
 
 -- code before data space is never changed
 abbrev pub HasCode : List ℕ → OpenConfiguration → Type 0

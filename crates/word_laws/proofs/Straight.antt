@@ -7,20 +7,20 @@ use Rattle.j1_simulator.specs.declared.effects.Next.{Next}
 use Rattle.j1_simulator.specs.declared.effects.Next.TheVariants.{Following, Target, IfZero, Returning}
 use Rattle.j1_simulator.specs.declared.effects.Effect.{Effect}
 use Rattle.j1_simulator.specs.Step.{Stop, effect_at, next_pc, depth_of}
-use Rattle.j1_simulator.specs.OpenMachine.{first, open_storage}
-use Rattle.j1_simulator.specs.Run.{made, advanced, run}
+use Rattle.j1_simulator.specs.OpenMachine.{top_cell, open_storage}
+use Rattle.j1_simulator.specs.Run.{after_effect, advanced, run}
 use Rattle.word_laws.specs.Rings.{OpenConfiguration}
 use Rattle.word_laws.proofs.Rows.{feed, HasAll}
 use Rattle.word_laws.specs.Rings.{BeforeEach, KnownWithin, WritesAbove, writes_return}
 use Rattle.word_laws.specs.Bounds.{StaysWithin}
 use Rattle.word_laws.proofs.Walk.{counted_to, pops, data_height, return_height, if_some, is_following, has_place, last_to, return_to, height_to, depth_to, checked, allowed, stays}
-use Rattle.word_laws.proofs.Ringing.{run_stays}
+use Rattle.word_laws.proofs.BothMachines.{run_stays}
 use Rattle.word_laws.proofs.Steps.{Moves, EndsOrMoves, made_moves, HasCode, kept_code, effect_here}
 use Rattle.word_laws.proofs.Heights.{counter_moves, height_le, data_moves, data_covers, return_moves, return_covers, pop_takes, size_moves, as_return, return_size_moves}
 
 pub feed_stays : (data_start : ℕ) (cells : List Instr) (s : Stop) (w : OpenConfiguration) → w.stop ≡ Some s → feed data_start cells w ≡ w
 feed_stays data_start [] s w e = refl
-feed_stays data_start (c ∷ cells) s w e = ap (λ x. feed data_start cells (made x open_storage data_start (effect w.core.pc c) w)) e ∙ feed_stays data_start cells s w e
+feed_stays data_start (c ∷ cells) s w e = ap (λ x. feed data_start cells (after_effect x open_storage data_start (effect w.core.pc c) w)) e ∙ feed_stays data_start cells s w e
 
 pub each_stays : (P : OpenConfiguration → Type 0) (data_start n : ℕ) (s : Stop) (w : OpenConfiguration) → w.stop ≡ Some s → P w → BeforeEach P data_start n w
 each_stays P data_start zero s w e p = tt
@@ -172,7 +172,7 @@ moved_counts data_start pc r b k x j y k' x' j' y' f w now m ck hx cj hy pl bpl 
       depth = m.data_depth ∙ ap (λ a. a +ℤ f.data_move) stand.depth ∙ counter_moves f.data_move r k k' ck;
       return_depth = m.return_depth ∙ ap (λ a. a +ℤ f.return_move) stand.return_depth ∙ counter_moves f.return_move b j j' cj;
       known = subst (λ a. KnownWithin (r + x') (a.t ∷ a.data_stack.below)) (sym m.core)
-          (data_moves (pops f.new_top) f.t_to_n f.data_move r x x' w.core.t _ w.core.data_stack hx (pop_takes f.new_top w.core.t (first w.core.data_stack.below) (first w.core.return_stack.below) m.cell (depth_of open_storage w.core)) stand.known);
+          (data_moves (pops f.new_top) f.t_to_n f.data_move r x x' w.core.t _ w.core.data_stack hx (pop_takes f.new_top w.core.t (top_cell w.core.data_stack.below) (top_cell w.core.return_stack.below) m.cell (depth_of open_storage w.core)) stand.known);
       return_known = subst (λ a. KnownWithin (b + y') a.return_stack.below) (sym m.core) (return_moves f.return_write f.return_move b y y' w.core.t w.core.return_stack hy stand.return_known);
       size = ap (λ a. length a.data_stack.below) m.core ∙ (let z = as_return (pops f.new_top) f.t_to_n f.data_move x x' hx in size_moves f.t_to_n f.data_move r k k' x z.0 w.core.t w.core.data_stack z.1 ck pl stand.size);
       return_size = ap (λ a. length a.return_stack.below) m.core ∙ return_size_moves f.return_write f.return_move b j j' y y' w.core.t w.core.return_stack hy cj bpl stand.return_size;
@@ -227,15 +227,15 @@ module _ (data_start : ℕ) (code : List ℕ) (size : length code ≡ data_start
   row [] q k x j y w stop e st has bk stand = (refl, tt, (k, x, j, y, stand, λ t. limits_of hi return_high k x j y (subst (λ a. stays a hi return_high [] k x j y ≡ true) t st)))
   row (c ∷ cells) q k x j y w (Some s) e st has bk stand = stopped_row (c ∷ cells) k x j y w s e (walk_step hi return_high (effect 0 c) (stays to_end hi return_high cells) k x j y st).limits stand
   row (c ∷ cells) q k x j y w None e st has bk stand =
-      step (effect w.core.pc c) (made None open_storage data_start (effect w.core.pc c) w)
+      step (effect w.core.pc c) (after_effect None open_storage data_start (effect w.core.pc c) w)
       (effect_here code w c bk has.0.0 has.0.1)
-      (ap (λ s. made s open_storage data_start (effect_at w.core) w) e ∙ ap (λ g. made None open_storage data_start g w) (effect_here code w c bk has.0.0 has.0.1))
-      (ap (λ s. feed data_start cells (made s open_storage data_start (effect w.core.pc c) w)) e)
+      (ap (λ s. after_effect s open_storage data_start (effect_at w.core) w) e ∙ ap (λ g. after_effect None open_storage data_start g w) (effect_here code w c bk has.0.0 has.0.1))
+      (ap (λ s. feed data_start cells (after_effect s open_storage data_start (effect w.core.pc c) w)) e)
       (placed hi return_high (effect w.core.pc c) (effect 0 c) (stays to_end hi return_high cells) k x j y (same_fields w.core.pc c) (walk_step hi return_high (effect 0 c) (stays to_end hi return_high cells) k x j y st))
       (made_moves data_start (effect w.core.pc c) w)
       (λ now k' x' j' y' s' h' b' t'. row cells q k' x' j' y' now now.stop refl s' h' b' t')
     where
-      step : (f : Effect) (now : OpenConfiguration) → effect_at w.core ≡ f → advanced w.stop open_storage data_start w ≡ now → feed data_start (c ∷ cells) w ≡ feed data_start cells now → WalkStep hi return_high f (stays to_end hi return_high cells) k x j y → EndsOrMoves data_start (next_pc open_storage f.next w.core.pc w.core.t (first w.core.return_stack.below)) f w now
+      step : (f : Effect) (now : OpenConfiguration) → effect_at w.core ≡ f → advanced w.stop open_storage data_start w ≡ now → feed data_start (c ∷ cells) w ≡ feed data_start cells now → WalkStep hi return_high f (stays to_end hi return_high cells) k x j y → EndsOrMoves data_start (next_pc open_storage f.next w.core.pc w.core.t (top_cell w.core.return_stack.below)) f w now
           → ((now : OpenConfiguration) (k x j y : ℕ) → stays to_end hi return_high cells k x j y ≡ true → HasAll code now.core.pc cells q → HasCode code now → Counts r b k x j y now → RowHolds cells now) → RowHolds (c ∷ cells) w
       step f now same goes fed o found later =
           cons_row c cells f w now goes fed (covered k x j y f w (stays to_end hi return_high cells) same o stand)
@@ -244,4 +244,4 @@ module _ (data_start : ℕ) (code : List ℕ) (size : length code ≡ data_start
           (λ m. later now o.k' o.x' o.j' o.y' o.on_is (subst (λ p. HasAll code p cells q) (sym (ap (λ a. a.pc) m.core)) has.1)
           (let bk' = kept_code data_start code w.core.memory m.memory size m.kept bk in (bk'.0, ap (λ a. a.memory) m.core ∙ bk'.1))
           (moved_counts data_start (following w.core.pc) r b k x j y o.k' o.x' o.j' o.y' f w now m o.counts o.height o.counts_return o.height_return o.place o.return_place stand))
-          (subst (λ n. EndsOrMoves data_start (next_pc open_storage n w.core.pc w.core.t (first w.core.return_stack.below)) f w now) o.next found))
+          (subst (λ n. EndsOrMoves data_start (next_pc open_storage n w.core.pc w.core.t (top_cell w.core.return_stack.below)) f w now) o.next found))

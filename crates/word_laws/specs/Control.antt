@@ -5,15 +5,15 @@ use Rattle.j1_table.specs.declared.instr.Instr.TheVariants.{Jump, Branch, Call}
 use Rattle.j1_table.specs.Instruction.{decoded}
 use Rattle.forth_program.specs.State.{World, State, Halted, Ends}
 use Rattle.j1_simulator.specs.Effect.{following}
-use Rattle.j1_simulator.specs.OpenMachine.{first, rest, open_storage}
+use Rattle.j1_simulator.specs.OpenMachine.{top_cell, rest, open_storage}
 use Rattle.j1_simulator.specs.Run.{run}
 use Rattle.word_laws.specs.Rings.{OpenConfiguration, BeforeEach}
 use Rattle.word_laws.specs.Bounds.{StaysWithin}
-use Rattle.word_laws.specs.Standing.{data_places, return_places, counted, standing_as, HasCome, StandIn}
+use Rattle.word_laws.specs.Standing.{data_places, return_places, standing_at_depths, standing_as, HasCome, StandIn}
 
 -- this instruction stands in code at pc
-abbrev pub Holds : List ℕ → ℕ → Instr → Type 0
-Holds code pc instruction = (decoded (slice_index code pc) ≡ instruction) × (pc < length code)
+abbrev pub HoldsInstruction : List ℕ → ℕ → Instr → Type 0
+HoldsInstruction code pc instruction = (decoded (slice_index code pc) ≡ instruction) × (pc < length code)
 
 -- one instruction leads from one configuration to another, with so many data and return cells before it
 pub record LeadsTo (data_start depth return_depth : ℕ) (from to : OpenConfiguration) : Type 0 where
@@ -22,35 +22,35 @@ pub record LeadsTo (data_start depth return_depth : ℕ) (from to : OpenConfigur
 
 abbrev pub JumpLeads : Type 0
 JumpLeads =
-    (data_start target pc : ℕ) (code c : List ℕ) (returns data_above return_above : List (Option ℕ)) (w : World) → Holds code pc (Jump target) →
-    LeadsTo data_start (length c) (length returns) (counted code pc c returns data_above return_above w) (counted code target c returns data_above return_above w)
+    (data_start target pc : ℕ) (code c : List ℕ) (returns data_above return_above : List (Option ℕ)) (w : World) → HoldsInstruction code pc (Jump target) →
+    LeadsTo data_start (length c) (length returns) (standing_at_depths code pc c returns data_above return_above w) (standing_at_depths code target c returns data_above return_above w)
 
 -- a call puts the address after it on the return places
 abbrev pub CallLeads : Type 0
 CallLeads =
-    (data_start target pc : ℕ) (code c : List ℕ) (returns data_above return_above : List (Option ℕ)) (w : World) → Holds code pc (Call target) →
-    LeadsTo data_start (length c) (length returns) (counted code pc c returns data_above return_above w)
-    (counted code target c (Some (2 * following pc) ∷ returns) data_above (rest return_above) w)
+    (data_start target pc : ℕ) (code c : List ℕ) (returns data_above return_above : List (Option ℕ)) (w : World) → HoldsInstruction code pc (Call target) →
+    LeadsTo data_start (length c) (length returns) (standing_at_depths code pc c returns data_above return_above w)
+    (standing_at_depths code target c (Some (2 * following pc) ∷ returns) data_above (rest return_above) w)
 
 -- a return (cell 700C) takes it
 abbrev pub ReturnLeads : Type 0
 ReturnLeads =
-    (data_start address pc : ℕ) (code c : List ℕ) (returns data_above return_above : List (Option ℕ)) (w : World) → Holds code pc (decoded 0x700C) →
-    LeadsTo data_start (length c) (suc (length returns)) (counted code pc c (Some address ∷ returns) data_above return_above w)
-    (counted code (address / 2 % 0x2000) c returns data_above (Some address ∷ return_above) w)
+    (data_start address pc : ℕ) (code c : List ℕ) (returns data_above return_above : List (Option ℕ)) (w : World) → HoldsInstruction code pc (decoded 0x700C) →
+    LeadsTo data_start (length c) (suc (length returns)) (standing_at_depths code pc c (Some address ∷ returns) data_above return_above w)
+    (standing_at_depths code (address / 2 % 0x2000) c returns data_above (Some address ∷ return_above) w)
 
 -- a branch takes the top cell, and is taken at 0
 abbrev pub BranchLeads : Type 0
 BranchLeads =
-    (data_start target pc : ℕ) (code c : List ℕ) (returns data_above return_above : List (Option ℕ)) (w : World) → Holds code pc (Branch target) →
-    LeadsTo data_start (suc (length c)) (length returns) (counted code pc (0 ∷ c) returns data_above return_above w)
-    (counted code target c returns (first (data_places c) ∷ data_above) return_above w)
+    (data_start target pc : ℕ) (code c : List ℕ) (returns data_above return_above : List (Option ℕ)) (w : World) → HoldsInstruction code pc (Branch target) →
+    LeadsTo data_start (suc (length c)) (length returns) (standing_at_depths code pc (0 ∷ c) returns data_above return_above w)
+    (standing_at_depths code target c returns (top_cell (data_places c) ∷ data_above) return_above w)
 
 abbrev pub BranchPasses : Type 0
 BranchPasses =
-    (data_start target pc n : ℕ) (code c : List ℕ) (returns data_above return_above : List (Option ℕ)) (w : World) → Holds code pc (Branch target) →
-    LeadsTo data_start (suc (length c)) (length returns) (counted code pc (suc n ∷ c) returns data_above return_above w)
-    (counted code (following pc) c returns (first (data_places c) ∷ data_above) return_above w)
+    (data_start target pc n : ℕ) (code c : List ℕ) (returns data_above return_above : List (Option ℕ)) (w : World) → HoldsInstruction code pc (Branch target) →
+    LeadsTo data_start (suc (length c)) (length returns) (standing_at_depths code pc (suc n ∷ c) returns data_above return_above w)
+    (standing_at_depths code (following pc) c returns (top_cell (data_places c) ∷ data_above) return_above w)
 
 -- the cells that end a run with status 0: a literal 0 is stored at the halt port, and changes nothing else but the counters
 abbrev pub halt_cells : List ℕ

@@ -4,7 +4,7 @@ use Rattle.cell_math.specs.Cell.{difference_of}
 use Rattle.j1_simulator.specs.declared.ends.End.TheVariants as chip
 use Rattle.j1_simulator.specs.Effect.{following}
 use Rattle.j1_simulator.specs.Step.{Stop, By}
-use Rattle.j1_simulator.specs.OpenMachine.{first, rest}
+use Rattle.j1_simulator.specs.OpenMachine.{top_cell, rest}
 use Rattle.forth_program.specs.State.{Entry, Cell, Loop, World, State, End, Halted, InputEnded, Outside, Underflow, Unbalanced, Outcome, Goes, Ends}
 use Rattle.word_laws.specs.Rings.{OpenConfiguration}
 
@@ -27,7 +27,7 @@ standing code pc c returns data_above return_above data_depth return_depth world
     record {
       core = record {
         pc = pc;
-        t = first (data_places c);
+        t = top_cell (data_places c);
         data_stack = record { below = rest (data_places c); above = data_above; at = data_depth };
         return_stack = record { below = returns; above = return_above; at = return_depth };
         memory = code ++ world.space;
@@ -40,13 +40,13 @@ standing code pc c returns data_above return_above data_depth return_depth world
     }
 
 -- the same, where each counter is the number of the cells of its stack
-abbrev pub counted : List ℕ → ℕ → List ℕ → List (Option ℕ) → List (Option ℕ) → List (Option ℕ) → World → OpenConfiguration
-counted code pc c returns data_above return_above world = standing code pc c returns data_above return_above (pos (length c)) (pos (length returns)) world
+abbrev pub standing_at_depths : List ℕ → ℕ → List ℕ → List (Option ℕ) → List (Option ℕ) → List (Option ℕ) → World → OpenConfiguration
+standing_at_depths code pc c returns data_above return_above world = standing code pc c returns data_above return_above (pos (length c)) (pos (length returns)) world
 
 -- the open machine that stands as a source, whose entries are over these places. Of the source's world it has data space, the
 -- input left and the prints; the accesses that the world remembers are no part of it
 abbrev pub standing_as : State → List ℕ → ℕ → List (Option ℕ) → List (Option ℕ) → List (Option ℕ) → OpenConfiguration
-standing_as s code pc base data_above return_above = counted code pc s.cells (return_places s.entries base) data_above return_above s.world
+standing_as s code pc base data_above return_above = standing_at_depths code pc s.cells (return_places s.entries base) data_above return_above s.world
 
 -- the machine's end for an end of a source; it has none for a lack of cells or of return entries
 abbrev pub machine_end : End → Option Stop

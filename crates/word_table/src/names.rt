@@ -169,7 +169,7 @@ fn first_of(name: &str, words: &[Word]) -> Option<Word>
     None
 }
 
-#[tactic(auto, using(crate::proofs::Naming::same_test))]
+#[tactic(auto, using(crate::proofs::WordNames::same_test))]
 fn has_name(word: Word, name: &str) -> bool
     ensures { result ≡ is_named name.now word }
 {

@@ -1,4 +1,4 @@
-use Rattle.arithmetic_words.proofs.Reading as reading
+use Rattle.arithmetic_words.proofs.ReadText as reading
 use Rattle.arithmetic_words.proofs.laws.arithmetic_text_is_read.Goals as goal
 
 pub returns : goal.returns

@@ -3,7 +3,7 @@ use Rattle.forth_program.specs.Tree.{Empty}
 use Rattle.forth_program.specs.Program.{SourceProgram}
 use Rattle.library_laws.specs.Bodies.{arithmetic_words}
 use Rattle.library_laws.specs.Library.{MeanWords}
-use Rattle.control_flow.specs.Outcome.{Fine}
+use Rattle.control_flow.specs.ParseResult.{Fine}
 use Rattle.control_flow.specs.SourceText.{program_of_text}
 use Rattle.arithmetic_words.specs.Program.{arithmetic_library}
 use Rattle.arithmetic_words.proofs.program.arithmetic_program.Goals as goal

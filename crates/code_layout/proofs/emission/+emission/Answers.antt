@@ -7,7 +7,7 @@ use Rattle.forth_program.specs.SourceTokens.{node_tokens, tokens_of, arms_tokens
 use Rattle.code_layout.specs.Built.{is_laid_out}
 use Rattle.code_layout.specs.Places.{place_by, word_count, definition_count}
 use Rattle.code_layout.specs.Layout.{q_do_cells, node_size, size, arms_size, out_place, node_cells, arms_cells}
-use Rattle.code_layout.proofs.Emitting.{cell_more, cells_more, of_more, arms_more, items_more, else_more, if_added, while_added, arm_added, case_added, q_do_added, one_added, item_fits, one_arm_added, arm_fits}
+use Rattle.code_layout.proofs.AddedCells.{cell_more, cells_more, of_more, arms_more, items_more, else_more, if_added, while_added, arm_added, case_added, q_do_added, one_added, item_fits, one_arm_added, arm_fits}
 use Rattle.code_layout.proofs.Machine.{both}
 use Rattle.code_layout.proofs.emission.+emission.Goals as goal
 

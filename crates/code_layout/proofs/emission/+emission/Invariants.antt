@@ -3,7 +3,7 @@ use Rattle.forth_program.specs.ItemTrees.{node_of, tree_of, arms_of, arms_tree}
 use Rattle.forth_program.specs.SourceTokens.{node_tokens, tokens_of, arms_tokens}
 use Rattle.code_layout.specs.Places.{place_by, word_count, definition_count}
 use Rattle.code_layout.specs.Layout.{nodes_cells, arms_cells}
-use Rattle.code_layout.proofs.Emitting.{Before, ArmsBefore}
+use Rattle.code_layout.proofs.AddedCells.{Before, ArmsBefore}
 use Rattle.code_layout.proofs.emission.+emission.Given as goal
 
 abbrev pub invariant-add_items-loop-i : goal.invariant-add_items-loop-i

@@ -1,4 +1,4 @@
-use Rattle.code_layout.proofs.Agreeing.{images_agree}
+use Rattle.code_layout.proofs.Simulation.{images_agree}
 use Rattle.code_layout.proofs.laws.images_agree.Goals as goal
 
 pub returns : goal.returns

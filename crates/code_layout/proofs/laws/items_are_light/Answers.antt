@@ -1,4 +1,4 @@
-use Rattle.code_layout.proofs.Weighing.{items_are_light, tokens_are_light}
+use Rattle.code_layout.proofs.CodeWeight.{items_are_light, tokens_are_light}
 use Rattle.code_layout.proofs.laws.items_are_light.Goals as goal
 
 pub returns-clause-items : goal.returns-clause-items

@@ -2,7 +2,7 @@ use Rattle.std.proofs.Common.{◌<◌, length, take, arith}
 use Rattle.std.proofs.lemmas.List.{length-take-le}
 use Rattle.forth_program.specs.ItemTrees.{tree_of}
 use Rattle.code_layout.specs.Places.{place_by, word_count, definition_count}
-use Rattle.code_layout.proofs.Placing.{body_added, body_laid}
+use Rattle.code_layout.proofs.DefinitionPlaces.{body_added, body_laid}
 use Rattle.code_layout.proofs.layout.add_bodies.Goals as goal
 
 pub loop-definition-preserved : goal.loop-definition-preserved

@@ -1,7 +1,7 @@
 use Rattle.std.proofs.Common.{◌++◌, length, drop, take}
 use Rattle.code_layout.specs.Layout.{bodies_cells}
 use Rattle.code_layout.specs.Places.{place_by, word_count, definition_count}
-use Rattle.code_layout.proofs.Placing.{Before}
+use Rattle.code_layout.proofs.DefinitionPlaces.{Before}
 use Rattle.code_layout.proofs.layout.add_bodies.Given as goal
 
 abbrev pub invariant-loop-definition : goal.invariant-loop-definition

@@ -2,7 +2,7 @@ use Rattle.std.proofs.Common.{◌++◌, length, take, ap, ◌∙◌}
 use Rattle.std.proofs.lemmas.Result.{on_ok_weaker}
 use Rattle.code_layout.specs.Layout.{type_routine, bodies_cells, execute_cells, abort_cells}
 use Rattle.code_layout.specs.Places.{place_by, library_of}
-use Rattle.code_layout.proofs.Placing.{three_parts}
+use Rattle.code_layout.proofs.DefinitionPlaces.{three_parts}
 use Rattle.code_layout.proofs.layout.add_library.Goals as goal
 
 pub returns : goal.returns

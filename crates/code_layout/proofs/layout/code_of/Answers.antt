@@ -6,7 +6,7 @@ use Rattle.forth_program.specs.Parts.{token_node}
 use Rattle.code_layout.specs.Built.{is_laid_out, token_is_laid_out}
 use Rattle.code_layout.specs.Layout.{type_routine, bodies_size, bodies_cells, execute_cells, abort_cells, token_jumps, tokens_cells}
 use Rattle.code_layout.specs.Places.{place_by, word_count, definition_count, tokens_size, library_of}
-use Rattle.code_layout.proofs.Placing.{room, definitions_are, are_places, main_low, main_is, library_items, program_items, token_items, after_jumps, after_library, cells_are}
+use Rattle.code_layout.proofs.DefinitionPlaces.{room, definitions_are, are_places, main_low, main_is, library_items, program_items, token_items, after_jumps, after_library, cells_are}
 use Rattle.code_layout.proofs.layout.code_of.Goals as goal
 
 pub place_of-requires : goal.place_of-requires

@@ -2,7 +2,7 @@ use Rattle.std.proofs.Common.{ap, ◌∙◌, take, arith}
 use Rattle.std.proofs.Math.Seq.{take-length}
 use Rattle.code_layout.specs.Layout.{bodies_size}
 use Rattle.code_layout.specs.Places.{library_of}
-use Rattle.code_layout.proofs.Placing.{room}
+use Rattle.code_layout.proofs.DefinitionPlaces.{room}
 use Rattle.code_layout.proofs.layout.routine_places.Goals as goal
 
 pub token_count-first-requires : goal.token_count-first-requires

@@ -1,6 +1,6 @@
 use Rattle.std.proofs.Common.{arith}
 use Rattle.std.proofs.lemmas.Grind.{common_steps}
-use Rattle.code_layout.proofs.Emitting.{some_else_size}
+use Rattle.code_layout.proofs.AddedCells.{some_else_size}
 use Rattle.code_layout.proofs.sizes.else_size.Goals as goal
 
 pub returns-else-is_empty : goal.returns-else-is_empty

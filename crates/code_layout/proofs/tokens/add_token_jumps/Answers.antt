@@ -1,7 +1,7 @@
 use Rattle.std.proofs.Common.{◌+◌, [], ◌∷◌, ◌++◌, ap, ◌∙◌, arith}
 use Rattle.forth_program.specs.declared.program.Token.TheVariants.{Def}
 use Rattle.code_layout.specs.Places.{place_by, word_count, definition_count}
-use Rattle.code_layout.proofs.Placing.{token_laid, token_fits, jump_added}
+use Rattle.code_layout.proofs.DefinitionPlaces.{token_laid, token_fits, jump_added}
 use Rattle.code_layout.proofs.tokens.add_token_jumps.Goals as goal
 
 pub token_place-requires : goal.token_place-requires

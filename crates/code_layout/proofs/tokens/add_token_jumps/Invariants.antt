@@ -2,7 +2,7 @@ use Rattle.std.proofs.Common.{◌++◌, drop, map}
 use Rattle.forth_program.specs.Parts.{token_node}
 use Rattle.code_layout.specs.Layout.{token_jumps}
 use Rattle.code_layout.specs.Places.{place_by, word_count, definition_count}
-use Rattle.code_layout.proofs.Placing.{JumpsBefore}
+use Rattle.code_layout.proofs.DefinitionPlaces.{JumpsBefore}
 use Rattle.code_layout.proofs.tokens.add_token_jumps.Given as goal
 
 abbrev pub invariant-loop-token : goal.invariant-loop-token

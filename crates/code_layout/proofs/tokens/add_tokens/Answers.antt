@@ -1,5 +1,5 @@
 use Rattle.code_layout.specs.Places.{place_by, word_count, definition_count}
-use Rattle.code_layout.proofs.Placing.{token_laid, token_added}
+use Rattle.code_layout.proofs.DefinitionPlaces.{token_laid, token_added}
 use Rattle.code_layout.proofs.tokens.add_tokens.Goals as goal
 
 pub add_token-requires-clause-laid_out : goal.add_token-requires-clause-laid_out

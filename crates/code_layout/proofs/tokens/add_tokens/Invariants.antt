@@ -2,7 +2,7 @@ use Rattle.std.proofs.Common.{◌++◌, drop, map}
 use Rattle.forth_program.specs.Parts.{token_node}
 use Rattle.code_layout.specs.Layout.{tokens_cells}
 use Rattle.code_layout.specs.Places.{place_by, word_count, definition_count}
-use Rattle.code_layout.proofs.Placing.{TokensBefore}
+use Rattle.code_layout.proofs.DefinitionPlaces.{TokensBefore}
 use Rattle.code_layout.proofs.tokens.add_tokens.Given as goal
 
 abbrev pub invariant-loop-token : goal.invariant-loop-token

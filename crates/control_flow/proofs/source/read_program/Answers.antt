@@ -1,7 +1,7 @@
 use Rattle.std.proofs.Common.{◌≡◌, arith, ◌∙◌, ap, sym, subst, suc, ◌-◌, length}
 use Rattle.control_flow.specs.SourceText.{source_at}
 use Rattle.control_flow.specs.SourceLaw.{IsSource}
-use Rattle.control_flow.specs.Answers.{place_of, source_of, Gives}
+use Rattle.control_flow.specs.Answers.{parser_state, source_of, AnswersAs}
 use Rattle.control_flow.proofs.Moves.{Good}
 use Rattle.control_flow.proofs.SourceFacts.{text_read, program_form}
 use Rattle.control_flow.proofs.SourceSteps.{refused_outside, at_end, refused_definition, next_source}
@@ -18,14 +18,14 @@ program-requires-clause-form c =
     let n = suc (length c.args.bytes.now) in
     program_form _ (subst (Good IsSource)
     (at_end _ (n - length c.definitions.source.bodies.items) (source_of c.definitions.source) (c.definitions.invariant.same n (omega arith)) (omega (arith, c.definitions.invariant.room))
-    c.in-Ok-outside.begins (place_of c.outside.new.self) c.in-Ok-outside.ensures.gives c.if-not-begins.true) (text_read c.args.bytes.now))
+    c.in-Ok-outside.begins (parser_state c.outside.new.self) c.in-Ok-outside.ensures.gives c.if-not-begins.true) (text_read c.args.bytes.now))
 
 pub returns-then-not-begins : goal.returns-then-not-begins
 returns-then-not-begins c =
     let n = suc (length c.args.bytes.now) in
-    subst (λ o. Gives (λ program. program) c.program.result o)
+    subst (λ o. AnswersAs (λ program. program) c.program.result o)
     (sym (at_end _ (n - length c.definitions.source.bodies.items) (source_of c.definitions.source) (c.definitions.invariant.same n (omega arith)) (omega (arith, c.definitions.invariant.room))
-    c.in-Ok-outside.begins (place_of c.outside.new.self) c.in-Ok-outside.ensures.gives c.if-not-begins.true)) c.program.ensures
+    c.in-Ok-outside.begins (parser_state c.outside.new.self) c.in-Ok-outside.ensures.gives c.if-not-begins.true)) c.program.ensures
 
 pub definitions-preserved : goal.definitions-preserved
 definitions-preserved c = record {
@@ -33,7 +33,7 @@ definitions-preserved c = record {
       let m = n - length c.definitions.source.bodies.items in
       let fewer : m - 1 ≡ n - length c.definition.new.self.bodies.items = omega (arith, c.in-Ok-definition.ensures.longer) in
       next_source _ m (source_of c.definitions.source) (c.definitions.invariant.same n h) (omega (arith, c.definitions.invariant.room))
-      c.in-Ok-outside.begins (place_of c.outside.new.self) c.in-Ok-outside.ensures.gives c.if-not-begins.false
+      c.in-Ok-outside.begins (parser_state c.outside.new.self) c.in-Ok-outside.ensures.gives c.if-not-begins.false
       (source_of c.definition.new.self) (c.in-Ok-definition.ensures.gives (m - 1) (omega (arith, c.definitions.invariant.room, c.in-Ok-outside.ensures.shorter c.if-not-begins.false)))
       ∙ ap (λ k. source_at k (source_of c.definition.new.self)) fewer;
   room = omega (arith, c.definitions.invariant.room, c.in-Ok-outside.ensures.shorter c.if-not-begins.false, c.in-Ok-definition.ensures.shorter, c.in-Ok-definition.ensures.longer);
@@ -46,5 +46,5 @@ returns-in-Err-definition c =
     let n = suc (length c.args.bytes.now) in
     let m = n - length c.definitions.source.bodies.items in
     refused_definition _ m (source_of c.definitions.source) (c.definitions.invariant.same n (omega arith)) (omega (arith, c.definitions.invariant.room))
-    c.in-Ok-outside.begins (place_of c.outside.new.self) c.in-Ok-outside.ensures.gives c.if-not-begins.false
+    c.in-Ok-outside.begins (parser_state c.outside.new.self) c.in-Ok-outside.ensures.gives c.if-not-begins.false
     c.in-Err-definition.error (c.in-Err-definition.ensures.gives (m - 1) (omega (arith, c.definitions.invariant.room, c.in-Ok-outside.ensures.shorter c.if-not-begins.false)))

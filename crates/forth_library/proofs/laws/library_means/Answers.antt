@@ -1,4 +1,4 @@
-use Rattle.forth_library.proofs.Standing as standing
+use Rattle.forth_library.proofs.LibraryForm as standing
 use Rattle.forth_library.proofs.Meaning as law
 use Rattle.forth_library.proofs.laws.library_means.Goals as goal
 

@@ -1,4 +1,4 @@
-use Rattle.forth_library.proofs.Reading as reading
+use Rattle.forth_library.proofs.ReadDefinitions as reading
 use Rattle.forth_library.proofs.laws.library_text_is_read.Goals as goal
 
 pub returns : goal.returns

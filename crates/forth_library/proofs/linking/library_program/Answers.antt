@@ -1,6 +1,6 @@
 use Rattle.std.proofs.Common.{ap, ◌∙◌}
 use Rattle.control_flow.specs.SourceText.{program_of_text}
-use Rattle.forth_library.proofs.Reading as reading
+use Rattle.forth_library.proofs.ReadDefinitions as reading
 use Rattle.forth_library.proofs.linking.library_program.Goals as goal
 
 pub definitions_of-requires-clause-is_library : goal.definitions_of-requires-clause-is_library

@@ -1,7 +1,7 @@
 use Rattle.std.proofs.Common.{arith, rules, ◌≡◌, refl, sym, ◌∙◌, subst, inl, inr}
 use Rattle.std.specs.Prelude.{Err}
 use Rattle.j1_simulator.specs.declared.ends.DriveError.TheVariants.{Read, Write}
-use Rattle.j1_simulator.proofs.Driving.{Underway, begins, drives_on, told_when, run_here, ended_here, front_here, made_all, made_front, made_broken, read_here, write_here, no_wish}
+use Rattle.j1_simulator.proofs.DriveSteps.{Underway, begins, drives_on, told_when, run_here, ended_here, front_here, made_all, made_front, made_broken, read_here, write_here, no_wish}
 use Rattle.j1_simulator.proofs.drives.drive.Goals as goal
 
 pub loop-made-init : goal.loop-made-init

@@ -1,7 +1,7 @@
 use Rattle.std.proofs.Common.{◌≡◌, ◌+◌, ◌≤◌, ◌<◌, length}
 use Rattle.std.specs.Prelude.{Some, None}
 use Rattle.j1_simulator.specs.Drive.{KeepsEnd}
-use Rattle.j1_simulator.proofs.Driving.{Underway}
+use Rattle.j1_simulator.proofs.DriveSteps.{Underway}
 use Rattle.j1_simulator.proofs.drives.drive.Given as goal
 
 abbrev pub invariant-loop-made : goal.invariant-loop-made

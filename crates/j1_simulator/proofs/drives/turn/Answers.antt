@@ -2,11 +2,11 @@ use Rattle.std.proofs.Common.{arith, rules, ◌≡◌, ◌++◌, [], Some, None,
 use Rattle.std.specs.Prelude.{IfOk, Err}
 use Rattle.j1_simulator.specs.declared.ends.DriveError.TheVariants.{Read, Write}
 use Rattle.j1_simulator.specs.Run.{advance}
-use Rattle.j1_simulator.specs.Drive.{Holds, told}
+use Rattle.j1_simulator.specs.Drive.{HoldsPrints, told}
 use Rattle.j1_simulator.specs.MachineState.{WantsAByte}
-use Rattle.j1_simulator.proofs.Turning.{key_turned, stepped}
-use Rattle.j1_simulator.proofs.Wanting.{steps_keep_end, wanting_keeps_end, wants, ended_is, flushed, noted, on_err, not_flushed, not_asked, none_taken, asked_taken, given_taken, stays, used, has_its_byte}
-use Rattle.j1_simulator.proofs.Holding.{grows_flushed, grows_then}
+use Rattle.j1_simulator.proofs.RunSteps.{key_turned, stepped}
+use Rattle.j1_simulator.proofs.Turns.{steps_keep_end, wanting_keeps_end, wants, ended_is, flushed, noted, on_err, not_flushed, not_asked, none_taken, asked_taken, given_taken, stays, used, has_its_byte}
+use Rattle.j1_simulator.proofs.FlushedOutput.{grows_flushed, grows_then}
 use Rattle.j1_simulator.proofs.Questions.{asked_once, asked_badly}
 use Rattle.j1_simulator.proofs.WaitingBytes.{key_silent}
 use Rattle.j1_simulator.proofs.TurnEnd.{key_follows, key_fills, on_ok_follows, on_err_fills}
@@ -53,7 +53,7 @@ returns-in_ok-byte-in-WantsByte-clause-run g c =
       ends = λ configuration fits data_start before left after l a.
           let f = flushed configuration fits c.args.machine.now c.step.new.self data_start left before _ _ _ a w.1 c.in_ok-flush-in-WantsByte.ensures.bytes in
           let t = key_turned configuration fits c.step.new.self c.give_byte.new.self c.step_apart.new.self data_start _ left after before _ _ _ f (subst WantsAByte (sym w.1) w.0) c.give_byte.ensures l c.step_apart.ensures.step in
-          let h : Holds before (g.O.Sink.held c.flush.new.out) (c.flush.new.self ++ told c.step_apart.result) (advance data_start configuration).printed = subst (λ b. Holds before (g.O.Sink.held c.flush.new.out) (b ++ told c.step_apart.result) (advance data_start configuration).printed) (sym c.in_ok-flush-in-WantsByte.ensures.empty) t.at.out in
+          let h : HoldsPrints before (g.O.Sink.held c.flush.new.out) (c.flush.new.self ++ told c.step_apart.result) (advance data_start configuration).printed = subst (λ b. HoldsPrints before (g.O.Sink.held c.flush.new.out) (b ++ told c.step_apart.result) (advance data_start configuration).printed) (sym c.in_ok-flush-in-WantsByte.ensures.empty) t.at.out in
           let silent : told c.step_apart.result ≡ [] = key_silent c.step.new.self c.give_byte.new.self c.step_apart.new.self c.step_apart.result c.in_ok-byte-in-WantsByte.byte (subst WantsAByte (sym w.1) w.0) c.give_byte.ensures c.step_apart.ensures.step in
           noted c.note.result _ c.args.machine.now c.args.buffer.now configuration fits c.step_apart.new.self data_start after before _ _ _ _ _ t c.note.ensures.err (c.note.ensures.ok before (advance data_start configuration).printed h) (c.note.ensures.front before (advance data_start configuration).printed h)
           (key_follows c.note.result c.args.machine.now c.step_apart.new.self configuration (advance data_start configuration) _ _ _ c.step_apart.result c.in_ok-flush-in-WantsByte.ensures.empty silent t.given c.note.ensures.waits) (key_fills c.note.result c.step_apart.new.self configuration (advance data_start configuration) _ _ c.step_apart.result silent c.note.ensures.full);

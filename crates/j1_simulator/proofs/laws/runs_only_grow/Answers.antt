@@ -1,6 +1,6 @@
 use Rattle.j1_simulator.specs.OpenMachine.{open_storage}
 use Rattle.j1_simulator.specs.RoundMachine.{round_storage}
-use Rattle.j1_simulator.proofs.Growing.{only_grows}
+use Rattle.j1_simulator.proofs.RunGrowth.{only_grows}
 use Rattle.j1_simulator.proofs.laws.runs_only_grow.Goals as goal
 
 pub returns-clause-round : goal.returns-clause-round

@@ -1,4 +1,4 @@
-use Rattle.j1_simulator.proofs.Wanting.{begins_at_start, wants_exactly, step_is_instruction, given_step_is_instruction}
+use Rattle.j1_simulator.proofs.Turns.{begins_at_start, wants_exactly, step_is_instruction, given_step_is_instruction}
 use Rattle.j1_simulator.proofs.laws.steps_are_the_run.Goals as goal
 
 pub returns-clause-start : goal.returns-clause-start

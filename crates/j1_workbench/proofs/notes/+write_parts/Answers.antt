@@ -1,6 +1,6 @@
 use Rattle.std.proofs.Common.{sym, subst, rules}
 use Rattle.outside_io.specs.Bytes.{WritesAll}
-use Rattle.j1_workbench.proofs.Appending.{fails_early, writes_then, parts_ended}
+use Rattle.j1_workbench.proofs.SinkContents.{fails_early, writes_then, parts_ended}
 use Rattle.j1_workbench.proofs.notes.+write_parts.Goals as goal
 
 pub returns-in_err-write-in-len1-up-clause-bytes : goal.returns-in_err-write-in-len1-up-clause-bytes

@@ -1,7 +1,7 @@
 use Rattle.std.proofs.Common.{map, rules}
 use Rattle.std.specs.Prelude.{codes}
 use Rattle.j1_workbench.specs.Notes.{ended}
-use Rattle.j1_workbench.proofs.Appending.{fails_early, writes_then}
+use Rattle.j1_workbench.proofs.SinkContents.{fails_early, writes_then}
 use Rattle.j1_workbench.proofs.notes.write_line.Goals as goal
 
 pub returns-in_err-write-clause-bytes : goal.returns-in_err-write-clause-bytes

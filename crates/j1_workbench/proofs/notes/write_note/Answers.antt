@@ -2,7 +2,7 @@ use Rattle.std.proofs.Common.{map, string_bytes, [], ◌∷◌, refl, ap, ◌∙
 use Rattle.std.specs.Prelude.{codes}
 use Rattle.j1_workbench.specs.declared.status.Status.TheVariants.{BadWords, StepsUsed, InputEnded, Outside, WriteFault, TooLarge}
 use Rattle.j1_workbench.specs.Notes.{line, named}
-use Rattle.j1_workbench.proofs.Appending.{noted}
+use Rattle.j1_workbench.proofs.SinkContents.{noted}
 use Rattle.j1_workbench.proofs.notes.write_note.Goals as goal
 
 pub returns-in-BadWords-clause-bytes : goal.returns-in-BadWords-clause-bytes

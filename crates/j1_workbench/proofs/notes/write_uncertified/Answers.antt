@@ -1,7 +1,7 @@
 use Rattle.std.proofs.Common.{refl, ◌∙◌}
 use Rattle.depth_certifier.specs.declared.effect.CertCause.TheVariants.{Data, Return, Shape}
 use Rattle.j1_workbench.specs.Notes.{named}
-use Rattle.j1_workbench.proofs.Appending.{uncertified_noted}
+use Rattle.j1_workbench.proofs.SinkContents.{uncertified_noted}
 use Rattle.j1_workbench.proofs.notes.write_uncertified.Goals as goal
 
 pub returns-in-Data-clause-bytes : goal.returns-in-Data-clause-bytes

@@ -1,5 +1,5 @@
 use Rattle.j1_workbench.specs.Surroundings.{stream}
-use Rattle.j1_workbench.proofs.Driving.{drives}
+use Rattle.j1_workbench.proofs.DriveResult.{drives}
 use Rattle.j1_workbench.proofs.running.run_image.Goals as goal
 
 pub returns : goal.returns

@@ -1,4 +1,4 @@
-use Rattle.pictured_output.proofs.Reading as reading
+use Rattle.pictured_output.proofs.ReadText as reading
 use Rattle.pictured_output.proofs.laws.pictured_text_is_read.Goals as goal
 
 pub returns : goal.returns

@@ -3,7 +3,7 @@ use Rattle.forth_program.specs.Tree.{Empty}
 use Rattle.forth_program.specs.Program.{SourceProgram}
 use Rattle.library_laws.specs.Bodies.{pictured_words}
 use Rattle.library_laws.specs.Library.{MeanWords}
-use Rattle.control_flow.specs.Outcome.{Fine}
+use Rattle.control_flow.specs.ParseResult.{Fine}
 use Rattle.control_flow.specs.SourceText.{program_of_text}
 use Rattle.pictured_output.specs.Program.{pictured_library}
 use Rattle.pictured_output.proofs.program.pictured_program.Goals as goal

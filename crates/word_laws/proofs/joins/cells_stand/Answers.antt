@@ -1,4 +1,4 @@
-use Rattle.word_laws.proofs.Joining as law
+use Rattle.word_laws.proofs.RunParts as law
 use Rattle.word_laws.proofs.joins.cells_stand.Goals as goal
 
 pub returns : goal.returns

@@ -1,4 +1,4 @@
-use Rattle.word_laws.proofs.Joining.{runs_join, bounds_join, bounds_widen, bounds_fit_rings, ends_stay}
+use Rattle.word_laws.proofs.RunParts.{runs_join, bounds_join, bounds_widen, bounds_fit_rings, ends_stay}
 use Rattle.word_laws.proofs.joins.runs_join.Goals as goal
 
 pub returns-clause-runs : goal.returns-clause-runs

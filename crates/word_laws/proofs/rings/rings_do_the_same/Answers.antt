@@ -1,4 +1,4 @@
-use Rattle.word_laws.proofs.Ringing.{runs_do_the_same, instruction_does_the_same}
+use Rattle.word_laws.proofs.BothMachines.{runs_do_the_same, instruction_does_the_same}
 use Rattle.word_laws.proofs.rings.rings_do_the_same.Goals as goal
 
 pub returns-clause-instruction : goal.returns-clause-instruction

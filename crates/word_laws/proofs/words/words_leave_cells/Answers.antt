@@ -1,4 +1,4 @@
-use Rattle.word_laws.proofs.Leaving as law
+use Rattle.word_laws.proofs.WordCells as law
 use Rattle.word_laws.proofs.words.words_leave_cells.Goals as goal
 
 pub returns : goal.returns

@@ -1,4 +1,4 @@
-use Rattle.word_table.proofs.Naming.{some_is, none_is}
+use Rattle.word_table.proofs.WordNames.{some_is, none_is}
 use Rattle.word_table.proofs.names.word_of.Goals as goal
 
 pub returns-clause-some : goal.returns-clause-some

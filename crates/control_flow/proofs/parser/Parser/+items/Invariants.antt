@@ -1,8 +1,8 @@
 use Rattle.std.proofs.Common.{◌≡◌, ℕ, ◌+◌, ◌-◌, ◌*◌, ◌<◌, ◌≤◌, length}
 use Rattle.forth_program.specs.ItemTrees.{items_of, arms_of}
 use Rattle.control_flow.specs.Items.{arms_at, items_at}
-use Rattle.control_flow.specs.Answers.{place_of, IsReady}
-use Rattle.control_flow.proofs.Growing.{behind}
+use Rattle.control_flow.specs.Answers.{parser_state, IsReadyParser}
+use Rattle.control_flow.proofs.ItemLists.{behind}
 use Rattle.control_flow.proofs.ArmLists.{behind_arms}
 use Rattle.control_flow.proofs.parser.Parser.+items.Given as goal
 
@@ -35,9 +35,9 @@ decreases-item l = 5 * length l.self.now.reader.rest + 4
 
 abbrev pub invariant-items-tokens : goal.invariant-items-tokens
 invariant-items-tokens l = record {
-  same : (n : ℕ) → length l.fn.self.reader.rest < n → items_at n (place_of l.fn.self) ≡ behind (items_of l.done) (items_at (n - length (items_of l.done)) (place_of l.self));
+  same : (n : ℕ) → length l.fn.self.reader.rest < n → items_at n (parser_state l.fn.self) ≡ behind (items_of l.done) (items_at (n - length (items_of l.done)) (parser_state l.self));
   room : length (items_of l.done) + length l.self.reader.rest ≤ length l.fn.self.reader.rest;
-  ready : IsReady l.self;
+  ready : IsReadyParser l.self;
 }
 
 abbrev pub decreases-items-tokens : goal.decreases-items-tokens
@@ -46,9 +46,9 @@ decreases-items-tokens l = length l.self.reader.rest
 abbrev pub invariant-case_item-arms : goal.invariant-case_item-arms
 invariant-case_item-arms l = record {
   same : (n m : ℕ) → length l.fn.self.reader.rest < n → length l.fn.self.reader.rest < m →
-      arms_at (items_at n) m (place_of l.fn.self) ≡ behind_arms (arms_of l.arms) (arms_at (items_at n) (m - length (arms_of l.arms)) (place_of l.self));
+      arms_at (items_at n) m (parser_state l.fn.self) ≡ behind_arms (arms_of l.arms) (arms_at (items_at n) (m - length (arms_of l.arms)) (parser_state l.self));
   room : length (arms_of l.arms) + length l.self.reader.rest ≤ length l.fn.self.reader.rest;
-  ready : IsReady l.self;
+  ready : IsReadyParser l.self;
 }
 
 abbrev pub decreases-case_item-arms : goal.decreases-case_item-arms

@@ -1,7 +1,7 @@
 use Rattle.j1_simulator.specs.contracts.machines.Machine.{the_view}
 use Rattle.std.proofs.Common.{rules, refl}
 use Rattle.j1_simulator.specs.MachineState.{key_of}
-use Rattle.j1_simulator.proofs.Stepping.{steps_ok}
+use Rattle.j1_simulator.proofs.MachineSteps.{steps_ok}
 use Rattle.j1_simulator.proofs.machines.Machine.pass.Goals as goal
 
 pub returns : goal.returns

@@ -1,0 +1,61 @@
+-- Places of a source text, and what reading from one gives.
+use Rattle.std.specs.Prelude.{ℕ, ◌+◌, nat_le, true, false, List}
+use Rattle.forth_reader.specs.declared.refusal.ReadCause.{ReadCause}
+use Rattle.forth_reader.specs.declared.refusal.ReadCause.TheVariants as read
+use Rattle.dictionary_core.specs.Pairs.{Pair}
+use Rattle.control_flow.specs.declared.nest.Open.{Open}
+use Rattle.control_flow.specs.declared.refusal.SourceCause.{SourceCause}
+use Rattle.control_flow.specs.declared.refusal.SourceCause.TheVariants as cause
+
+-- where a source is read on, and what it has come to
+pub record ParserState : Type 0 where
+  -- the bytes that are left, and the number of tokens before them, comments too
+  pub rest : List ℕ
+  pub count : ℕ
+  -- the sum of the weights so far
+  pub weight : ℕ
+  -- the open structures of the definition that is read, the innermost first
+  pub nest : List Open
+  -- the names that are defined, oldest first, each with the number of its definition, and how many definitions there are
+  pub entries : List (Pair ℕ)
+  pub definitions : ℕ
+
+-- a value; the first refused token with its cause; or a token comes first that is not built yet.
+-- Endless stands for a text that is left when the fuel is spent; with more fuel than bytes it never comes.
+pub data ParseResult (A : Type 0) : Type 0 where
+  Fine : (value : A) → ParseResult A
+  Refused : (token : ℕ) (cause : SourceCause) → ParseResult A
+  NotBuilt : ParseResult A
+  Endless : ParseResult A
+
+-- goes on with the value, where there is one
+infixl 10 ◌>>=◌
+abbrev pub ◌>>=◌ : {A B : Type 0} → ParseResult A → (A → ParseResult B) → ParseResult B
+(Fine x) >>= f = f x
+(Refused k c) >>= f = Refused k c
+NotBuilt >>= f = NotBuilt
+Endless >>= f = Endless
+
+abbrev pub source_cause : ReadCause → SourceCause
+source_cause read.NotText = cause.NotText
+source_cause read.NameTooLong = cause.NameTooLong
+source_cause read.OpenComment = cause.OpenComment
+source_cause read.OpenString = cause.OpenString
+
+-- the place with a weight more; the sum of all weights is at most 2,400
+abbrev pub weighed : ℕ → ParserState → ParseResult ParserState
+weighed weight at = elim (nat_le (at.weight + weight) 2400) [
+  | true ↦ Fine (record at { weight = at.weight + weight })
+  | false ↦ Refused at.count cause.CodeFull
+]
+
+-- a word does not fit
+abbrev pub unfit : {A : Type 0} → ParserState → ParseResult A
+unfit at = Refused at.count cause.BadNest
+
+-- what holds of the value, where there is one
+abbrev pub Each : {A : Type 0} → (A → Type 0) → ParseResult A → Type 0
+Each P (Fine x) = P x
+Each P (Refused k c) = Unit {0}
+Each P NotBuilt = Unit {0}
+Each P Endless = Unit {0}
