@@ -23,4 +23,6 @@ pub record KeepsTight (library : List Nodes) (p : SourceProgram) (input : List �
 
 -- for every valid certificate
 abbrev pub CertifiedChipsKeepTight : Type 0
-CertifiedChipsKeepTight = (library : List Nodes) (p : SourceProgram) (input : List ℕ) (z : Cert) → IsLibrary library → LibraryMeans library → IsBuilt library p → AreBytes p.first_space → AreBytes input → IsValid p z → KeepsTight library p input z
+CertifiedChipsKeepTight =
+    (library : List Nodes) (p : SourceProgram) (input : List ℕ) (z : Cert) → IsLibrary library → LibraryMeans library → IsBuilt library p →
+    AreBytes p.first_space → AreBytes input → IsValid p z → KeepsTight library p input z

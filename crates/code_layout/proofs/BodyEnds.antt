@@ -19,7 +19,9 @@ use Rattle.code_layout.proofs.Steps.{Comes, Halts, Follows, comes, stays, AllSta
 back_to : (pc : ℕ) → 2 * following pc / 2 % 0x2000 ≡ following pc
 back_to pc = omega arith
 
-module _ (laws : Laws) (p : SourceProgram) (code : List ℕ) (place : ℕ → ℕ) (size : length code ≡ p.data_start / 2) (all : AllStand laws p code place size) (high return_high pc now : ℕ) (world : World) (fits : IsWorld world) (starts : world.data_start ≡ p.data_start) (data_above return_above : List (Option ℕ)) where
+module _ (laws : Laws) (p : SourceProgram) (code : List ℕ) (place : ℕ → ℕ) (size : length code ≡ p.data_start / 2) (all : AllStand laws p code place size)
+    (high return_high pc now : ℕ) (world : World) (fits : IsWorld world) (starts : world.data_start ≡ p.data_start)
+    (data_above return_above : List (Option ℕ)) where
   abbrev at_end : List Work → List Frame → List ℕ → State
   at_end w fs c = record { work = w; entries = []; callers = fs; cells = c; world = world }
 
@@ -52,7 +54,8 @@ module _ (laws : Laws) (p : SourceProgram) (code : List ℕ) (place : ℕ → �
       }
 
   -- a definition returns to its caller
-  caller_goes_on : (f : Frame) (fs : List Frame) (c : List ℕ) (base below : List (Option ℕ)) → Waits code place p f base below → Frames code place p fs below → unfinished fs ≤ now → Returns code place p pc → AreCells c → length c ≤ high → length base ≤ return_high →
+  caller_goes_on : (f : Frame) (fs : List Frame) (c : List ℕ) (base below : List (Option ℕ)) → Waits code place p f base below → Frames code place p fs below →
+      unfinished fs ≤ now → Returns code place p pc → AreCells c → length c ≤ high → length base ≤ return_high →
       Comes laws p code place size (There c base) 1 now high return_high (record { work = f.work; entries = f.entries; callers = fs; cells = c; world = world })
   caller_goes_on f fs c base below waits frames due returns fc room back =
       let address = 2 * following waits.pc in
@@ -62,25 +65,34 @@ module _ (laws : Laws) (p : SourceProgram) (code : List ℕ) (place : ℕ → �
       let leads = laws.returns p.data_start (2 * following waits.pc) pc code c (return_places f.entries below) data_above return_above world returns in
       let goes = runs_one laws p.data_start (length c) (suc (length (return_places f.entries below))) high return_high v
       (standing_at_depths code (2 * following waits.pc / 2 % 0x2000) c (return_places f.entries below) data_above (Some (2 * following waits.pc) ∷ return_above) world) room back' leads in
-      let goes' = subst (λ q. Runs p.data_start high return_high 1 (There c (Some (2 * following waits.pc) ∷ return_places f.entries below)) (standing_at_depths code q c (return_places f.entries below) data_above (Some (2 * following waits.pc) ∷ return_above) world)) (back_to waits.pc) goes in
+      let goes' =
+      subst
+      (λ q.
+      Runs p.data_start high return_high 1 (There c (Some (2 * following waits.pc) ∷ return_places f.entries below))
+      (standing_at_depths code q c (return_places f.entries below) data_above (Some (2 * following waits.pc) ∷ return_above) world))
+      (back_to waits.pc) goes in
       subst (λ b. Comes laws p code place size (There c b) 1 now high return_high (record { work = f.work; entries = f.entries; callers = fs; cells = c; world = world })) (sym waits.returns)
       (comes laws p code place size v 1 (following waits.pc) 1 now high return_high waits.out after below data_above (Some (2 * following waits.pc) ∷ return_above) (omega arith) (omega arith) due goes'
       (record { stands = waits.stands; loops = waits.loops; frames = frames; cells = fc; entries = waits.entries; world = fits; starts = starts }))
 
   -- to a caller that made its last call it does not return: the machine stays
-  caller_ends : (f : Frame) (fs : List Frame) (c : List ℕ) (base below : List (Option ℕ)) → ends_body f.work ≡ true → Pends code place p f base below → Frames code place p fs below → 1 + ahead f.work + unfinished fs ≤ now → Returns code place p pc → AreCells c →
+  caller_ends : (f : Frame) (fs : List Frame) (c : List ℕ) (base below : List (Option ℕ)) → ends_body f.work ≡ true → Pends code place p f base below →
+      Frames code place p fs below → 1 + ahead f.work + unfinished fs ≤ now → Returns code place p pc → AreCells c →
       Comes laws p code place size (There c base) 1 now high return_high (record { work = f.work; entries = f.entries; callers = fs; cells = c; world = world })
   caller_ends f fs c base below e pends frames n returns fc =
       let after : State = record { work = f.work; entries = f.entries; callers = fs; cells = c; world = world } in
       stays laws p code place size (There c base) pc 1 now high return_high pends.out after below data_above return_above n (ap (There c) pends.returns)
       (record { stands = ends_at_return code place p pends.out pc f.work e pends.few returns; loops = pends.loops; frames = frames; cells = fc; entries = pends.entries; world = fits; starts = starts })
 
-  caller_follows : (tail : Bool) (f : Frame) (fs : List Frame) (c : List ℕ) (base below : List (Option ℕ)) → ends_body f.work ≡ tail → Called code place p tail f base below → Frames code place p fs below → steps_left tail f.work + unfinished fs ≤ now → Returns code place p pc → AreCells c →
+  caller_follows : (tail : Bool) (f : Frame) (fs : List Frame) (c : List ℕ) (base below : List (Option ℕ)) → ends_body f.work ≡ tail →
+      Called code place p tail f base below → Frames code place p fs below → steps_left tail f.work + unfinished fs ≤ now → Returns code place p pc →
+      AreCells c →
       length c ≤ high → length base ≤ return_high → Comes laws p code place size (There c base) 1 now high return_high (record { work = f.work; entries = f.entries; callers = fs; cells = c; world = world })
   caller_follows true f fs c base below e called frames n returns fc room back = caller_ends f fs c base below e called frames n returns fc
   caller_follows false f fs c base below e called frames n returns fc room back = caller_goes_on f fs c base below called frames (omega (arith, n)) returns fc room back
 
-  pub body_ends : (fs : List Frame) (w : List Work) (es : List Entry) (c : List ℕ) (base : List (Option ℕ)) → Frames code place p fs base → unfinished fs ≤ now → Returns code place p pc → AreCells c → length c + end_peak fs ≤ high → length (return_places es base) ≤ return_high →
+  pub body_ends : (fs : List Frame) (w : List Work) (es : List Entry) (c : List ℕ) (base : List (Option ℕ)) → Frames code place p fs base →
+      unfinished fs ≤ now → Returns code place p pc → AreCells c → length c + end_peak fs ≤ high → length (return_places es base) ≤ return_high →
       Follows laws p code place size (standing_at_depths code pc c (return_places es base) data_above return_above world) 1 now high return_high (unwound es fs (record { work = w; entries = es; callers = fs; cells = c; world = world }))
   body_ends fs w (entry ∷ es) c base frames due returns fc room back = tt
   body_ends [] w [] c base frames due returns fc room back =

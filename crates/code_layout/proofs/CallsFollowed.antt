@@ -14,7 +14,11 @@ use Rattle.word_laws.specs.Standing.{StandIn}
 use Rattle.word_laws.specs.Words.{stands_plain}
 use Rattle.forth_program.specs.declared.item.TextKind.{TextKind}
 use Rattle.forth_program.specs.declared.item.TextKind.TheVariants as text
-use Rattle.code_layout.specs.Layout.{Routine, Definition, Library, Executing, Aborting, type_routine, routine_of, word_falls_through, text_falls_through, word_size, text_size, word_cells, text_cells, jump_to, branch_to, call_cell, return_cell, do_cells, turn_cells, out_cells, turn_size, q_do_cells, of_cells, end_case_cells, falls_through, reaches_end, cell_if, size_if, node_size, size, arms_size, body_size, else_place, while_place, out_place, arm_place, others_place, loop_code, arm_code, node_cells, nodes_cells, arms_cells, body_cells}
+use Rattle.code_layout.specs.Layout.{Routine, Definition, Library, Executing, Aborting, type_routine, routine_of, word_falls_through, text_falls_through}
+use Rattle.code_layout.specs.Layout.{word_size, text_size, word_cells, text_cells, jump_to, branch_to, call_cell, return_cell, do_cells, turn_cells, out_cells}
+use Rattle.code_layout.specs.Layout.{turn_size, q_do_cells, of_cells, end_case_cells, falls_through, reaches_end, cell_if, size_if, node_size, size, arms_size}
+use Rattle.code_layout.specs.Layout.{body_size, else_place, while_place, out_place, arm_place, others_place, loop_code, arm_code, node_cells, nodes_cells}
+use Rattle.code_layout.specs.Layout.{arms_cells, body_cells}
 use Rattle.code_layout.specs.Built.{word_is_laid_out, is_laid_out}
 use Rattle.code_layout.specs.LastCalls.{begins_well}
 use Rattle.code_layout.proofs.Machine.{both}
@@ -83,7 +87,9 @@ module _ (code : List ℕ) where
 
   -- in the code of a definition or library word that begins at a place, whose calls lead no further than there
   module _ (data_start : ℕ) (place : Routine → ℕ) (low : (r : Routine) → place r < 8192) (executes : Bool) (words count : ℕ) (goes_back : Node → Bool) (start : ℕ)
-      (near_call : (d : ℕ) → is_laid_out executes words count (Call d) ≡ true → goes_back (Call d) ≡ true → place (Definition d) ≤ start) (near_word : (number : ℕ) → nat_lt number words ≡ true → place (Library number) ≤ start) (near_stubs : executes ≡ true → place Executing ≤ start) where
+      (near_call : (d : ℕ) → is_laid_out executes words count (Call d) ≡ true → goes_back (Call d) ≡ true → place (Definition d) ≤ start)
+      (near_word : (number : ℕ) → nat_lt number words ≡ true → place (Library number) ≤ start)
+      (near_stubs : executes ≡ true → place Executing ≤ start) where
     abbrev pub laid : Node → Bool
     laid = is_laid_out executes words count
 
@@ -108,7 +114,8 @@ module _ (code : List ℕ) where
       pub have_cells : everywhere begins_well nodes ≡ true
       pub leaves : leaves_fit in_do nodes ≡ true
 
-    two_suit : (in_do : Bool) (first second : Nodes) → (everywhere laid first && everywhere laid second) ≡ true → (everywhere goes_back first && everywhere goes_back second) ≡ true → (everywhere begins_well first && everywhere begins_well second) ≡ true →
+    two_suit : (in_do : Bool) (first second : Nodes) → (everywhere laid first && everywhere laid second) ≡ true →
+        (everywhere goes_back first && everywhere goes_back second) ≡ true → (everywhere begins_well first && everywhere begins_well second) ≡ true →
         (leaves_fit in_do first && leaves_fit in_do second) ≡ true → AllSuit in_do first × AllSuit in_do second
     two_suit in_do first second a b c d =
         let a' = both (everywhere laid first) (everywhere laid second) a in
@@ -188,7 +195,8 @@ module _ (code : List ℕ) where
     call_starts true r at next near after h = jump_back code at (place r) h.0 (low r) (omega arith)
     call_starts false r at next near after h = let l = low r in other_cell code at (0x4000 + place r) h.0 (omega arith) (λ e. absurd (omega (arith, e, l)))
 
-    plain_starts : (word : Word) (found : Option Routine) (tail : Bool) (at next : ℕ) → word_is_laid_out executes words found word ≡ true → begins_well (Plain word) ≡ true → start ≤ at → StandIn code at (word_cells data_start place tail found word) next → MayFollow code at
+    plain_starts : (word : Word) (found : Option Routine) (tail : Bool) (at next : ℕ) → word_is_laid_out executes words found word ≡ true →
+        begins_well (Plain word) ≡ true → start ≤ at → StandIn code at (word_cells data_start place tail found word) next → MayFollow code at
     plain_starts word None tail at next fit some after h =
         let well = words_start_well word in
         word_starts data_start word at next (third (stands_plain word) (begins_well (Plain word)) (starts_well (cells_of word)) well fit some) h
@@ -199,7 +207,9 @@ module _ (code : List ℕ) where
 
     -- the first cells of an item that is not EXIT may stand behind a call
     mutual
-      starts : (node : Node) (tail reached in_do : Bool) (out_at at next : ℕ) → Suits in_do node → Inner in_do out_at → out_at < 8192 → is_tail (Then node Empty) false ≡ false → start ≤ at → StandIn code at (cells_of_node out_at at tail reached node) next → at + node_size tail reached node < 8192 → MayFollow code at
+      starts : (node : Node) (tail reached in_do : Bool) (out_at at next : ℕ) → Suits in_do node → Inner in_do out_at → out_at < 8192 →
+          is_tail (Then node Empty) false ≡ false → start ≤ at → StandIn code at (cells_of_node out_at at tail reached node) next →
+          at + node_size tail reached node < 8192 → MayFollow code at
       starts (Literal value) tail reached in_do out_at at next s inner lt other after h n = number_starts value at next h
       starts (Plain word) tail reached in_do out_at at next s inner lt other after h n = plain_starts word (routine_of word) tail at next s.is_laid s.has_cells after h
       starts (Call d) tail reached in_do out_at at next s inner lt other after h n = call_starts tail (Definition d) at next (near_call d s.is_laid s.back) after h
@@ -223,7 +233,10 @@ module _ (code : List ℕ) where
           let body_code = cells_of_nodes out_at (while_place at test) false true body in
           let suits = two_suit in_do test body s.parts_laid s.parts_back s.parts_have_cells s.leaves in
           let c = cut code at (size false true test) (cells_of_nodes out_at at false true test) (branch_to target ∷ (body_code ++ jump_to at ∷ [])) next (size_is test data_start place out_at at false true) (omega (arith, n)) h in
-          let d = cut code (while_place at test) (size false true body) body_code (jump_to at ∷ []) next (size_is body data_start place out_at (while_place at test) false true) (omega (arith, n)) (onward code test_end (branch_to target) (body_code ++ jump_to at ∷ []) next (omega (arith, n)) c.1) in
+          let d =
+          cut code (while_place at test) (size false true body) body_code (jump_to at ∷ []) next
+          (size_is body data_start place out_at (while_place at test) false true) (omega (arith, n))
+          (onward code test_end (branch_to target) (body_code ++ jump_to at ∷ []) next (omega (arith, n)) c.1) in
           starts_all test in_do out_at at test_end suits.0 inner lt after c.0 (omega (arith, n))
           (λ e. let some = exit_size test e in (body_end, omega (arith, some), d.1.1, inl d.1.0))
           (λ none. let same : test_end ≡ at = omega (arith, none) in other_cell code at (0x2000 + target) (ap (slice_index code) (sym same) ∙ c.1.0) (omega arith) (λ e. absurd (omega (arith, e, n))))
@@ -256,8 +269,13 @@ module _ (code : List ℕ) where
           let own = size false true tests + 4 + size tail true body + size_if (reaches_end tail true body) in
           let others_code = arms_cells data_start place out_at (others_place at tail tests body) tail end_at others in
           let more = of_cells (others_place at tail tests body) ++ (body_code ++ cell_if (reaches_end tail true body) (jump_to end_at)) in
-          let a = cut code at (arms_size tail (Arm tests body others)) (arm_code at tail end_at tests body tests_code body_code ++ others_code) rest_code next (arms_size_is (Arm tests body others) data_start place out_at at tail end_at) (omega (arith, n)) h in
-          let b = cut code at own (arm_code at tail end_at tests body tests_code body_code) others_code rest_at (arm_size_is at tail end_at tests body tests_code body_code (size_is tests data_start place out_at at false true) (size_is body data_start place out_at (arm_place at tests) tail true)) (omega (arith, n)) a.0 in
+          let a =
+          cut code at (arms_size tail (Arm tests body others)) (arm_code at tail end_at tests body tests_code body_code ++ others_code) rest_code next
+          (arms_size_is (Arm tests body others) data_start place out_at at tail end_at) (omega (arith, n)) h in
+          let b =
+          cut code at own (arm_code at tail end_at tests body tests_code body_code) others_code rest_at
+          (arm_size_is at tail end_at tests body tests_code body_code (size_is tests data_start place out_at at false true)
+          (size_is body data_start place out_at (arm_place at tests) tail true)) (omega (arith, n)) a.0 in
           let c = cut code at (size false true tests) tests_code more (at + own) (size_is tests data_start place out_at at false true) (omega (arith, n)) b.0 in
           starts_all tests in_do out_at at of_at own_suits.0 inner lt after c.0 (omega (arith, n))
           (λ e. absurd (no_exit_first tests body others rest s.has_cells e))
@@ -266,25 +284,33 @@ module _ (code : List ℕ) where
       starts Exit tail reached in_do out_at at next s inner lt other after h n = absurd (let e : true ≡ false = other in cc)
 
       -- and so may items of a loop, to whose begin a way leads back
-      starts_all : (nodes : Nodes) (in_do : Bool) (out_at at next : ℕ) → AllSuit in_do nodes → Inner in_do out_at → out_at < 8192 → start ≤ at → StandIn code at (cells_of_nodes out_at at false true nodes) next → at + size false true nodes < 8192 →
+      starts_all : (nodes : Nodes) (in_do : Bool) (out_at at next : ℕ) → AllSuit in_do nodes → Inner in_do out_at → out_at < 8192 → start ≤ at →
+          StandIn code at (cells_of_nodes out_at at false true nodes) next → at + size false true nodes < 8192 →
           (is_tail nodes false ≡ true → Later code at) → (size false true nodes ≡ 0 → MayFollow code at) → MayFollow code at
       starts_all Empty in_do out_at at next s inner lt after h n later none = none refl
       starts_all (Then Exit rest) in_do out_at at next s inner lt after h n later none = return_with_way_back code at h.0 (later refl)
       starts_all (Then node rest) in_do out_at at next s inner lt after h n later none =
           let suits = list_suits in_do node rest s in
           let here = is_tail rest false in
-          let c = cut code at (node_size here true node) (cells_of_node out_at at here true node) (cells_of_nodes out_at (at + node_size here true node) false (falls_through here node) rest) next (node_size_is node data_start place out_at at here true) (omega (arith, n)) h in
+          let c =
+          cut code at (node_size here true node) (cells_of_node out_at at here true node)
+          (cells_of_nodes out_at (at + node_size here true node) false (falls_through here node) rest) next
+          (node_size_is node data_start place out_at at here true) (omega (arith, n)) h in
           starts node here true in_do out_at at (at + node_size here true node) suits.0 inner lt refl after c.0 (omega (arith, n))
 
     -- what follows an item that is not in tail position
-    next_may : (rest : Nodes) (tail reached in_do : Bool) (out_at at next : ℕ) → AllSuit in_do rest → Inner in_do out_at → out_at < 8192 → start ≤ at → StandIn code at (cells_of_nodes out_at at tail reached rest) next → at + size tail reached rest < 8192 → is_tail rest tail ≡ false → reached ≡ true →
+    next_may : (rest : Nodes) (tail reached in_do : Bool) (out_at at next : ℕ) → AllSuit in_do rest → Inner in_do out_at → out_at < 8192 → start ≤ at →
+        StandIn code at (cells_of_nodes out_at at tail reached rest) next → at + size tail reached rest < 8192 → is_tail rest tail ≡ false → reached ≡ true →
         (tail ≡ false → reaches_end tail reached rest ≡ true → MayFollow code (at + size tail reached rest)) → MayFollow code at
     next_may Empty tail reached in_do out_at at next s inner lt after h n e g k = let same : at + 0 ≡ at = omega arith in subst (MayFollow code) same (k e g)
     next_may (Then Exit more) tail reached in_do out_at at next s inner lt after h n e g k = absurd (let f : true ≡ false = e in cc)
     next_may (Then node more) tail reached in_do out_at at next s inner lt after h n e g k =
         let suits = list_suits in_do node more s in
         let here = is_tail more tail in
-        let c = cut code at (node_size here reached node) (cells_of_node out_at at here reached node) (cells_of_nodes out_at (at + node_size here reached node) tail (falls_through here node) more) next (node_size_is node data_start place out_at at here reached) (omega (arith, n)) h in
+        let c =
+        cut code at (node_size here reached node) (cells_of_node out_at at here reached node)
+        (cells_of_nodes out_at (at + node_size here reached node) tail (falls_through here node) more) next
+        (node_size_is node data_start place out_at at here reached) (omega (arith, n)) h in
         starts node here reached in_do out_at at (at + node_size here reached node) suits.0 inner lt refl after c.0 (omega (arith, n))
 
     call_followed : (tail : Bool) (r : Routine) (at : ℕ) → StandIn code at (call_cell tail (place r) ∷ []) (at + 1) → at + 1 < 8192 → (tail ≡ false → not tail ≡ true → MayFollow code (at + 1)) → CallsFollowed code at (at + 1)
@@ -296,14 +322,17 @@ module _ (code : List ℕ) where
     word_followed word None tail at h n k = no_calls code at (length (cells_of word)) (cells_from data_start word) (at + length (cells_of word)) (words_have_no_calls data_start word) (from_size data_start word) n h
     word_followed word (Some r) tail at h n k = call_followed tail r at h n k
 
-    text_followed : (kind : TextKind) (tail : Bool) (at : ℕ) → StandIn code at (text_cells place tail kind) (at + text_size kind) → at + text_size kind < 8192 → (tail ≡ false → text_falls_through kind tail ≡ true → MayFollow code (at + text_size kind)) → CallsFollowed code at (at + text_size kind)
+    text_followed : (kind : TextKind) (tail : Bool) (at : ℕ) → StandIn code at (text_cells place tail kind) (at + text_size kind) → at + text_size kind < 8192 →
+        (tail ≡ false → text_falls_through kind tail ≡ true → MayFollow code (at + text_size kind)) → CallsFollowed code at (at + text_size kind)
     text_followed text.Address tail at h n k = λ c a b l m. absurd (omega arith)
     text_followed text.Print tail at h n k = call_followed tail type_routine at h n k
     text_followed text.Abort tail at h n k = call_followed tail Aborting at h n k
 
     -- a loop, by the calls in its body
-    loop_followed : (body : Nodes) (plus : Bool) (at last : ℕ) (inner : List ℕ) → length inner ≡ size false true body → StandIn code at (loop_code at body plus inner) last → last ≡ at + (8 + size false true body + turn_size plus + 4) → last < 8192 →
-        (StandIn code (at + 8) inner (at + 8 + size false true body) → slice_index code (out_place at body plus) ≡ 0x6B8D → MayFollow code (at + 8 + size false true body) → CallsFollowed code (at + 8) (at + 8 + size false true body)) → CallsFollowed code at last
+    loop_followed : (body : Nodes) (plus : Bool) (at last : ℕ) (inner : List ℕ) → length inner ≡ size false true body →
+        StandIn code at (loop_code at body plus inner) last → last ≡ at + (8 + size false true body + turn_size plus + 4) → last < 8192 →
+        (StandIn code (at + 8) inner (at + 8 + size false true body) → slice_index code (out_place at body plus) ≡ 0x6B8D →
+        MayFollow code (at + 8 + size false true body) → CallsFollowed code (at + 8) (at + 8 + size false true body)) → CallsFollowed code at last
     loop_followed body plus at last inner e h end n body_followed =
         let drop_at = out_place at body plus in
         let turn_at = at + 8 + size false true body in
@@ -314,13 +343,17 @@ module _ (code : List ℕ) where
         let same : last ≡ out_place at body plus + 4 = omega (arith, end) in
         let one = no_calls code at 8 do_cells (at + 8) refl refl (omega (arith, n, end)) c.0 in
         let two = body_followed d.0 g.1.0 (turn_starts plus (at + 8) (out_place at body plus) turn_at last out_cells d.1) in
-        let three = no_calls code turn_at (turn_size plus) turn (out_place at body plus) (turns_have_no_calls plus (at + 8) (out_place at body plus) (omega (arith, n, end)) (omega (arith, n, end))) (turn_size_is plus (at + 8) (out_place at body plus)) (omega (arith, n, end)) g.0 in
+        let three =
+        no_calls code turn_at (turn_size plus) turn (out_place at body plus)
+        (turns_have_no_calls plus (at + 8) (out_place at body plus) (omega (arith, n, end)) (omega (arith, n, end)))
+        (turn_size_is plus (at + 8) (out_place at body plus)) (omega (arith, n, end)) g.0 in
         let four = no_calls code (out_place at body plus) 4 out_cells last refl refl (omega (arith, n, end)) g.1 in
         subst (CallsFollowed code at) (sym same)
         (followed_join code at (at + 8) (out_place at body plus + 4) one (followed_join code (at + 8) turn_at (out_place at body plus + 4) two (followed_join code turn_at drop_at (out_place at body plus + 4) three four)))
 
     mutual
-      followed : (node : Node) (tail reached in_do : Bool) (out_at at : ℕ) → Suits in_do node → Inner in_do out_at → out_at < 8192 → start ≤ at → StandIn code at (cells_of_node out_at at tail reached node) (at + node_size tail reached node) → at + node_size tail reached node < 8192 →
+      followed : (node : Node) (tail reached in_do : Bool) (out_at at : ℕ) → Suits in_do node → Inner in_do out_at → out_at < 8192 → start ≤ at →
+          StandIn code at (cells_of_node out_at at tail reached node) (at + node_size tail reached node) → at + node_size tail reached node < 8192 →
           (tail ≡ false → falls_through tail node ≡ true → MayFollow code (at + node_size tail reached node)) → CallsFollowed code at (at + node_size tail reached node)
       followed (Literal value) tail reached in_do out_at at s inner lt after h n k = no_calls code at (length (number_cells value)) (number_cells value) (at + length (number_cells value)) (numbers_have_no_calls value) refl n h
       followed (Plain word) tail reached in_do out_at at s inner lt after h n k = word_followed word (routine_of word) tail at h n k
@@ -363,15 +396,24 @@ module _ (code : List ℕ) where
           let suits = two_suit in_do first (Then node rest) s.parts_laid s.parts_back s.parts_have_cells s.leaves in
           let first_code = cells_of_nodes out_at (at + 1) tail true first in
           let second_code = cells_of_nodes out_at (else_place at tail first (Then node rest)) tail true (Then node rest) in
-          let c = cut code (at + 1) (size tail true first) first_code (cell_if g1 (jump_to target) ++ second_code) last (size_is first data_start place out_at (at + 1) tail true) (omega (arith, n)) (onward code at (branch_to second_at) (first_code ++ (cell_if g1 (jump_to target) ++ second_code)) last (omega (arith, n)) h) in
+          let c =
+          cut code (at + 1) (size tail true first) first_code (cell_if g1 (jump_to target) ++ second_code) last
+          (size_is first data_start place out_at (at + 1) tail true) (omega (arith, n))
+          (onward code at (branch_to second_at) (first_code ++ (cell_if g1 (jump_to target) ++ second_code)) last (omega (arith, n)) h) in
           let d = cut code (at + 1 + size tail true first) (size_if g1) (cell_if g1 (jump_to target)) second_code last (if_size_is g1 (jump_to target)) (omega (arith, n)) c.1 in
           let e : last ≡ target = omega arith in
           let k' : tail ≡ false → falls_through tail (If first (Then node rest)) ≡ true → MayFollow code (else_place at tail first (Then node rest) + size tail true (Then node rest)) = λ t g. subst (MayFollow code) e (k t g) in
           let one = one_no_call code at (branch_to second_at) (first_code ++ (cell_if g1 (jump_to target) ++ second_code)) last (grind (arith, nat_tests, n)) (omega (arith, n)) h in
           let two = all_followed first tail true in_do out_at (at + 1) suits.0 inner lt (omega arith) c.0 (omega (arith, n))
-          (λ t g. jump_on code (at + 1 + size tail true first) target (jump_stands g1 (at + 1 + size tail true first) target (at + 1 + size tail true first + size_if g1) g d.0) (omega (arith, n)) (k' t (ap (λ b. b || reaches_end tail true (Then node rest)) g)).returns) in
+          (λ t g.
+          jump_on code (at + 1 + size tail true first) target
+          (jump_stands g1 (at + 1 + size tail true first) target (at + 1 + size tail true first + size_if g1) g d.0) (omega (arith, n))
+          (k' t (ap (λ b. b || reaches_end tail true (Then node rest)) g)).returns) in
           let three = cell_if_no_call code g1 (at + 1 + size tail true first) (jump_to target) (at + 1 + size tail true first + size_if g1) (grind (arith, nat_tests, n)) (omega (arith, n)) d.0 in
-          let four = all_followed (Then node rest) tail true in_do out_at (else_place at tail first (Then node rest)) suits.1 inner lt (omega arith) (subst (StandIn code (else_place at tail first (Then node rest)) second_code) e d.1) (omega (arith, n)) (λ t g. k' t (either (reaches_end tail true first) (reaches_end tail true (Then node rest)) g)) in
+          let four =
+          all_followed (Then node rest) tail true in_do out_at (else_place at tail first (Then node rest)) suits.1 inner lt (omega arith)
+          (subst (StandIn code (else_place at tail first (Then node rest)) second_code) e d.1) (omega (arith, n))
+          (λ t g. k' t (either (reaches_end tail true first) (reaches_end tail true (Then node rest)) g)) in
           subst (CallsFollowed code at) (sym e)
           (followed_join code at (at + 1) target one (followed_join code (at + 1) (at + 1 + size tail true first) target two (followed_join code (at + 1 + size tail true first) second_at target three four)))
       followed (Until body) tail reached in_do out_at at s inner lt after h n k =
@@ -391,11 +433,16 @@ module _ (code : List ℕ) where
           let body_code = cells_of_nodes out_at (while_place at test) false true body in
           let suits = two_suit in_do test body s.parts_laid s.parts_back s.parts_have_cells s.leaves in
           let c = cut code at (size false true test) (cells_of_nodes out_at at false true test) (branch_to target ∷ (body_code ++ jump_to at ∷ [])) last (size_is test data_start place out_at at false true) (omega (arith, n)) h in
-          let d = cut code (while_place at test) (size false true body) body_code (jump_to at ∷ []) last (size_is body data_start place out_at (while_place at test) false true) (omega (arith, n)) (onward code test_end (branch_to target) (body_code ++ jump_to at ∷ []) last (omega (arith, n)) c.1) in
+          let d =
+          cut code (while_place at test) (size false true body) body_code (jump_to at ∷ []) last
+          (size_is body data_start place out_at (while_place at test) false true) (omega (arith, n))
+          (onward code test_end (branch_to target) (body_code ++ jump_to at ∷ []) last (omega (arith, n)) c.1) in
           let e : last ≡ target = omega arith in
           let one = all_followed test false true in_do out_at at suits.0 inner lt after c.0 (omega (arith, n)) (λ t g. other_cell code (at + size false true test) (0x2000 + target) c.1.0 (omega arith) (λ f. absurd (omega (arith, f, n)))) in
           let two = one_no_call code (at + size false true test) (branch_to target) (body_code ++ jump_to at ∷ []) last (grind (arith, nat_tests, n)) (omega (arith, n)) c.1 in
-          let three = all_followed body false true in_do out_at (while_place at test) suits.1 inner lt (omega arith) d.0 (omega (arith, n)) (λ t g. jump_back code (while_place at test + size false true body) at d.1.0 (omega (arith, n)) (omega arith)) in
+          let three =
+          all_followed body false true in_do out_at (while_place at test) suits.1 inner lt (omega arith) d.0 (omega (arith, n))
+          (λ t g. jump_back code (while_place at test + size false true body) at d.1.0 (omega (arith, n)) (omega arith)) in
           let four = one_no_call code (while_place at test + size false true body) (jump_to at) [] last (grind (arith, nat_tests, n)) (omega (arith, n)) d.1 in
           subst (CallsFollowed code at) (sym e)
           (followed_join code at test_end target one (followed_join code test_end body_at target two (followed_join code body_at body_end target three four)))
@@ -409,7 +456,10 @@ module _ (code : List ℕ) where
           subst (CallsFollowed code at) (sym e) (followed_join code at end (at + size false true body + 1) one two)
       followed (Do body plus) tail reached in_do out_at at s inner lt after h n k =
           loop_followed body plus at (at + node_size tail reached (Do body plus)) (cells_of_nodes (out_place at body plus) (at + 8) false true body) (size_is body data_start place (out_place at body plus) (at + 8) false true) h refl n
-          (λ stands drop may. all_followed body false true true (out_place at body plus) (at + 8) (record { are_laid = s.parts_laid; all_back = s.parts_back; have_cells = s.parts_have_cells; leaves = s.leaves }) (λ t. drop) (omega (arith, n)) (omega arith) stands (omega (arith, n)) (λ t f. may))
+          (λ stands drop may.
+          all_followed body false true true (out_place at body plus) (at + 8)
+          (record { are_laid = s.parts_laid; all_back = s.parts_back; have_cells = s.parts_have_cells; leaves = s.leaves }) (λ t. drop)
+          (omega (arith, n)) (omega arith) stands (omega (arith, n)) (λ t f. may))
       followed (QDo body plus) tail reached in_do out_at at s inner lt after h n k =
           let last = at + node_size tail reached (QDo body plus) in
           let body_code = cells_of_nodes (out_place (at + 7) body plus) (at + 7 + 8) false true body in
@@ -417,7 +467,10 @@ module _ (code : List ℕ) where
           let c = cut code at 7 (q_do_cells (at + 7) end_at) (loop_code (at + 7) body plus body_code) last refl (omega (arith, n)) h in
           let one = no_calls code at 7 (q_do_cells (at + 7) end_at) (at + 7) (grind (arith, nat_tests, n)) refl (omega (arith, n)) c.0 in
           let two = loop_followed body plus (at + 7) last body_code (size_is body data_start place (out_place (at + 7) body plus) (at + 7 + 8) false true) c.1 (omega arith) n
-          (λ stands drop may. all_followed body false true true (out_place (at + 7) body plus) (at + 7 + 8) (record { are_laid = s.parts_laid; all_back = s.parts_back; have_cells = s.parts_have_cells; leaves = s.leaves }) (λ t. drop) (omega (arith, n)) (omega arith) stands (omega (arith, n)) (λ t f. may)) in
+          (λ stands drop may.
+          all_followed body false true true (out_place (at + 7) body plus) (at + 7 + 8)
+          (record { are_laid = s.parts_laid; all_back = s.parts_back; have_cells = s.parts_have_cells; leaves = s.leaves }) (λ t. drop)
+          (omega (arith, n)) (omega arith) stands (omega (arith, n)) (λ t f. may)) in
           followed_join code at (at + 7) last one two
       followed (Case arms rest) tail reached in_do out_at at s inner lt after h n k =
           let last = at + node_size tail reached (Case arms rest) in
@@ -436,7 +489,8 @@ module _ (code : List ℕ) where
       followed Leave tail reached in_do out_at at s inner lt after h n k = one_no_call code at out_at [] (at + 1) (grind (arith, nat_tests)) n h
       followed Exit tail reached in_do out_at at s inner lt after h n k = cell_if_no_call code reached at return_cell (at + size_if reached) refl n h
 
-      all_followed : (nodes : Nodes) (tail reached in_do : Bool) (out_at at : ℕ) → AllSuit in_do nodes → Inner in_do out_at → out_at < 8192 → start ≤ at → StandIn code at (cells_of_nodes out_at at tail reached nodes) (at + size tail reached nodes) → at + size tail reached nodes < 8192 →
+      all_followed : (nodes : Nodes) (tail reached in_do : Bool) (out_at at : ℕ) → AllSuit in_do nodes → Inner in_do out_at → out_at < 8192 → start ≤ at →
+          StandIn code at (cells_of_nodes out_at at tail reached nodes) (at + size tail reached nodes) → at + size tail reached nodes < 8192 →
           (tail ≡ false → reaches_end tail reached nodes ≡ true → MayFollow code (at + size tail reached nodes)) → CallsFollowed code at (at + size tail reached nodes)
       all_followed Empty tail reached in_do out_at at s inner lt after h n k = λ c a b l m. absurd (omega arith)
       all_followed (Then node rest) tail reached in_do out_at at s inner lt after h n k =
@@ -444,15 +498,24 @@ module _ (code : List ℕ) where
           let here = is_tail rest tail in
           let middle = at + node_size here reached node in
           let next_reached = falls_through here node in
-          let c = cut code at (node_size here reached node) (cells_of_node out_at at here reached node) (cells_of_nodes out_at middle tail next_reached rest) (at + (node_size here reached node + size tail next_reached rest)) (node_size_is node data_start place out_at at here reached) (omega (arith, n)) h in
+          let c =
+          cut code at (node_size here reached node) (cells_of_node out_at at here reached node) (cells_of_nodes out_at middle tail next_reached rest)
+          (at + (node_size here reached node + size tail next_reached rest)) (node_size_is node data_start place out_at at here reached)
+          (omega (arith, n)) h in
           let e : at + (node_size here reached node + size tail next_reached rest) ≡ middle + size tail next_reached rest = omega arith in
           let rest_stands = subst (StandIn code middle (cells_of_nodes out_at middle tail next_reached rest)) e c.1 in
           let k' : tail ≡ false → reaches_end tail next_reached rest ≡ true → MayFollow code (middle + size tail next_reached rest) = λ t g. subst (MayFollow code) e (k t g) in
-          let one = followed node here reached in_do out_at at suits.0 inner lt after c.0 (omega (arith, n)) (λ t g. next_may rest tail next_reached in_do out_at middle (middle + size tail next_reached rest) suits.1 inner lt (omega arith) rest_stands (omega (arith, n)) t g k') in
+          let one =
+          followed node here reached in_do out_at at suits.0 inner lt after c.0 (omega (arith, n))
+          (λ t g.
+          next_may rest tail next_reached in_do out_at middle (middle + size tail next_reached rest) suits.1 inner lt (omega arith) rest_stands
+          (omega (arith, n)) t g k') in
           let two = all_followed rest tail next_reached in_do out_at middle suits.1 inner lt (omega arith) rest_stands (omega (arith, n)) k' in
           subst (CallsFollowed code at) (sym e) (followed_join code at middle (middle + size tail next_reached rest) one two)
 
-      arms_followed : (arms : Arms) (tail in_do : Bool) (out_at at end_at : ℕ) → ArmsSuit in_do arms → Inner in_do out_at → out_at < 8192 → start ≤ at → StandIn code at (arms_cells data_start place out_at at tail end_at arms) (at + arms_size tail arms) → at + arms_size tail arms < 8192 → end_at < 8192 →
+      arms_followed : (arms : Arms) (tail in_do : Bool) (out_at at end_at : ℕ) → ArmsSuit in_do arms → Inner in_do out_at → out_at < 8192 → start ≤ at →
+          StandIn code at (arms_cells data_start place out_at at tail end_at arms) (at + arms_size tail arms) → at + arms_size tail arms < 8192 →
+          end_at < 8192 →
           (tail ≡ false → MayFollow code end_at) → CallsFollowed code at (at + arms_size tail arms)
       arms_followed NoArm tail in_do out_at at end_at s inner lt after h n low k = λ c a b l m. absurd (omega arith)
       arms_followed (Arm tests body others) tail in_do out_at at end_at s inner lt after h n low k =
@@ -467,7 +530,10 @@ module _ (code : List ℕ) where
           let body_code = cells_of_nodes out_at body_at tail true body in
           let others_code = arms_cells data_start place out_at other_at tail end_at others in
           let own = size false true tests + 4 + size tail true body + size_if reached in
-          let a = cut code at own (arm_code at tail end_at tests body tests_code body_code) others_code last (arm_size_is at tail end_at tests body tests_code body_code (size_is tests data_start place out_at at false true) (size_is body data_start place out_at body_at tail true)) (omega (arith, n)) h in
+          let a =
+          cut code at own (arm_code at tail end_at tests body tests_code body_code) others_code last
+          (arm_size_is at tail end_at tests body tests_code body_code (size_is tests data_start place out_at at false true)
+          (size_is body data_start place out_at body_at tail true)) (omega (arith, n)) h in
           let c = cut code at (size false true tests) tests_code (of_cells other_at ++ (body_code ++ cell_if reached (jump_to end_at))) (at + own) (size_is tests data_start place out_at at false true) (omega (arith, n)) a.0 in
           let o = cut code of_at 4 (of_cells other_at) (body_code ++ cell_if reached (jump_to end_at)) (at + own) refl (omega (arith, n)) c.1 in
           let d = cut code body_at (size tail true body) body_code (cell_if reached (jump_to end_at)) (at + own) (size_is body data_start place out_at body_at tail true) (omega (arith, n)) o.1 in

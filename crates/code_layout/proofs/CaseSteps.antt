@@ -23,7 +23,8 @@ use Rattle.code_layout.proofs.Phrases.{phrase_runs}
 use Rattle.code_layout.proofs.Steps.{Comes, Follows, comes}
 use Rattle.code_layout.proofs.LoopSteps.{with_cells, at, branches, passes, jumps, do_follows}
 
-module _ (laws : Laws) (p : SourceProgram) (code : List ℕ) (place : ℕ → ℕ) (size : length code ≡ p.data_start / 2) (high return_high : ℕ) (fs : List Frame) (world : World) (fits : IsWorld world) (starts : world.data_start ≡ p.data_start) (base : List (Option ℕ)) where
+module _ (laws : Laws) (p : SourceProgram) (code : List ℕ) (place : ℕ → ℕ) (size : length code ≡ p.data_start / 2) (high return_high : ℕ) (fs : List Frame)
+    (world : World) (fits : IsWorld world) (starts : world.data_start ≡ p.data_start) (base : List (Option ℕ)) where
   abbrev state : List Work → List Entry → List ℕ → State
   state w es c = with_cells laws p code place size high return_high fs world fits starts base w es c
 
@@ -34,28 +35,36 @@ module _ (laws : Laws) (p : SourceProgram) (code : List ℕ) (place : ℕ → �
   Leads n pc es c next c' data_above return_above = (above : List (Option ℕ)) × (above' : List (Option ℕ)) × Runs p.data_start high return_high n (There pc es c data_above return_above) (There next es c' above above')
 
   -- OVER =
-  compares : (pc test x y : ℕ) (es : List Entry) (c : List ℕ) (data_above return_above : List (Option ℕ)) → StandIn code pc (0x6181 ∷ 0x6703 ∷ []) test → AreEntries es → AreCells (x ∷ y ∷ c) → length c + 3 ≤ high → length (return_places es base) ≤ return_high →
+  compares : (pc test x y : ℕ) (es : List Entry) (c : List ℕ) (data_above return_above : List (Option ℕ)) → StandIn code pc (0x6181 ∷ 0x6703 ∷ []) test →
+      AreEntries es → AreCells (x ∷ y ∷ c) → length c + 3 ≤ high → length (return_places es base) ≤ return_high →
       Leads 2 pc es (x ∷ y ∷ c) test (flag (x == y) ∷ y ∷ c) data_above return_above
   compares pc test x y es c data_above return_above stands fe fc room back =
       phrase_runs p high return_high base laws code size (Over ∷ Equal ∷ []) (state [] es (x ∷ y ∷ c)) (state [] es (flag (x == y) ∷ y ∷ c)) pc test data_above return_above refl refl (grind arith) stands fc fe fits starts
 
   -- OVER OVER =
-  compares_both : (pc test start limit : ℕ) (es : List Entry) (c : List ℕ) (data_above return_above : List (Option ℕ)) → StandIn code pc (0x6181 ∷ 0x6181 ∷ 0x6703 ∷ []) test → AreEntries es → AreCells (start ∷ limit ∷ c) → length c + 4 ≤ high → length (return_places es base) ≤ return_high →
+  compares_both : (pc test start limit : ℕ) (es : List Entry) (c : List ℕ) (data_above return_above : List (Option ℕ)) →
+      StandIn code pc (0x6181 ∷ 0x6181 ∷ 0x6703 ∷ []) test → AreEntries es → AreCells (start ∷ limit ∷ c) → length c + 4 ≤ high →
+      length (return_places es base) ≤ return_high →
       Leads 3 pc es (start ∷ limit ∷ c) test (flag (limit == start) ∷ start ∷ limit ∷ c) data_above return_above
   compares_both pc test start limit es c data_above return_above stands fe fc room back =
-      phrase_runs p high return_high base laws code size (Over ∷ Over ∷ Equal ∷ []) (state [] es (start ∷ limit ∷ c)) (state [] es (flag (limit == start) ∷ start ∷ limit ∷ c)) pc test data_above return_above refl refl (grind arith) stands fc fe fits starts
+      phrase_runs p high return_high base laws code size (Over ∷ Over ∷ Equal ∷ []) (state [] es (start ∷ limit ∷ c))
+      (state [] es (flag (limit == start) ∷ start ∷ limit ∷ c)) pc test data_above return_above refl refl (grind arith) stands fc fe fits starts
 
   -- DROP, and DROP DROP
-  drops_one : (pc next x : ℕ) (es : List Entry) (c : List ℕ) (data_above return_above : List (Option ℕ)) → StandIn code pc (0x6103 ∷ []) next → AreEntries es → AreCells (x ∷ c) → length c + 1 ≤ high → length (return_places es base) ≤ return_high → Leads 1 pc es (x ∷ c) next c data_above return_above
+  drops_one : (pc next x : ℕ) (es : List Entry) (c : List ℕ) (data_above return_above : List (Option ℕ)) → StandIn code pc (0x6103 ∷ []) next → AreEntries es →
+      AreCells (x ∷ c) → length c + 1 ≤ high → length (return_places es base) ≤ return_high → Leads 1 pc es (x ∷ c) next c data_above return_above
   drops_one pc next x es c data_above return_above stands fe fc room back =
       phrase_runs p high return_high base laws code size (DropTop ∷ []) (state [] es (x ∷ c)) (state [] es c) pc next data_above return_above refl refl (grind arith) stands fc fe fits starts
 
-  drops_two : (pc next x y : ℕ) (es : List Entry) (c : List ℕ) (data_above return_above : List (Option ℕ)) → StandIn code pc (0x6103 ∷ 0x6103 ∷ []) next → AreEntries es → AreCells (x ∷ y ∷ c) → length c + 2 ≤ high → length (return_places es base) ≤ return_high → Leads 2 pc es (x ∷ y ∷ c) next c data_above return_above
+  drops_two : (pc next x y : ℕ) (es : List Entry) (c : List ℕ) (data_above return_above : List (Option ℕ)) → StandIn code pc (0x6103 ∷ 0x6103 ∷ []) next →
+      AreEntries es → AreCells (x ∷ y ∷ c) → length c + 2 ≤ high → length (return_places es base) ≤ return_high →
+      Leads 2 pc es (x ∷ y ∷ c) next c data_above return_above
   drops_two pc next x y es c data_above return_above stands fe fc room back =
       phrase_runs p high return_high base laws code size (DropTop ∷ DropTop ∷ []) (state [] es (x ∷ y ∷ c)) (state [] es c) pc next data_above return_above refl refl (grind arith) stands fc fe fits starts
 
   -- instructions before those that come to a state
-  comes_after : (n price now : ℕ) (v v' : OpenConfiguration) (after : State) → Runs p.data_start high return_high n v v' → Comes laws p code place size v' price now high return_high after → Comes laws p code place size v (n + price) now high return_high after
+  comes_after : (n price now : ℕ) (v v' : OpenConfiguration) (after : State) → Runs p.data_start high return_high n v v' →
+      Comes laws p code place size v' price now high return_high after → Comes laws p code place size v (n + price) now high return_high after
   comes_after n price now v v' after runs c =
       let paid = c.cheap in
       let progress = c.progress in
@@ -73,7 +82,8 @@ module _ (laws : Laws) (p : SourceProgram) (code : List ℕ) (place : ℕ → �
       }
 
   module _ (pc now : ℕ) (data_above return_above : List (Option ℕ)) (frames : Frames code place p fs base) (due : unfinished fs ≤ now) where
-    of_by : (equal : Bool) (out : Option ℕ) (body : Nodes) (others : Arms) (rest : Nodes) (w : List Work) (x y : ℕ) (es : List Entry) (c : List ℕ) → (h : Stands code place p out pc (OfTest body others rest ∷ w)) → Loops code place p out w → AreEntries es → AreCells (x ∷ y ∷ c) →
+    of_by : (equal : Bool) (out : Option ℕ) (body : Nodes) (others : Arms) (rest : Nodes) (w : List Work) (x y : ℕ) (es : List Entry) (c : List ℕ) →
+        (h : Stands code place p out pc (OfTest body others rest ∷ w)) → Loops code place p out w → AreEntries es → AreCells (x ∷ y ∷ c) →
         length c + 3 ≤ high → length (return_places es base) ≤ return_high → Leads 2 pc es (x ∷ y ∷ c) h.2.0 (flag equal ∷ y ∷ c) data_above return_above →
         Follows laws p code place size (There pc es (x ∷ y ∷ c) data_above return_above) 4 now high return_high (if equal then Goes (state (before body (EndOf ∷ w)) es c) else Goes (state (Todo (Case others rest) ∷ w) es (y ∷ c)))
     of_by true out body others rest w x y es c h l fe fc room back g =
@@ -85,7 +95,10 @@ module _ (laws : Laws) (p : SourceProgram) (code : List ℕ) (place : ℕ → �
         (runs_then laws p.data_start high return_high 3 1 v (There (following h.2.0) es (y ∷ c) (top (data_places (y ∷ c)) ∷ g.0) g.1) (There h.0 es c d.0 d.1)
         (runs_then laws p.data_start high return_high 2 1 v (There h.2.0 es (65535 ∷ y ∷ c) g.0 g.1) (There (following h.2.0) es (y ∷ c) (top (data_places (y ∷ c)) ∷ g.0) g.1) g.2 b) d.2)
         (record {
-          stands = stands_before code place p body out h.0 (EndOf ∷ w) (λ e. (end_at : ℕ) × HoldsInstruction code e (Jump end_at) × Stands code place p out end_at w) (λ e k. (inl (k.0, k.1, k.2), omega (arith, few))) h.3 (omega (arith, few));
+          stands =
+              stands_before code place p body out h.0 (EndOf ∷ w)
+              (λ e. (end_at : ℕ) × HoldsInstruction code e (Jump end_at) × Stands code place p out end_at w)
+              (λ e k. (inl (k.0, k.1, k.2), omega (arith, few))) h.3 (omega (arith, few));
           loops = loops_before code place p body out (EndOf ∷ w) l;
           frames = frames;
           cells = fc.1.1;
@@ -100,7 +113,8 @@ module _ (laws : Laws) (p : SourceProgram) (code : List ℕ) (place : ℕ → �
         (runs_then laws p.data_start high return_high 2 1 v (There h.2.0 es (0 ∷ y ∷ c) g.0 g.1) (There h.1 es (y ∷ c) (top (data_places (y ∷ c)) ∷ g.0) g.1) g.2 b)
         (record { stands = (h.4, h.6); loops = l; frames = frames; cells = fc.1; entries = fe; world = fits; starts = starts })
 
-    pub of_follows : (out : Option ℕ) (body : Nodes) (others : Arms) (rest : Nodes) (w u : List Work) (es : List Entry) (c : List ℕ) → Stands code place p out pc (OfTest body others rest ∷ w) → Loops code place p out w → AreEntries es → AreCells c →
+    pub of_follows : (out : Option ℕ) (body : Nodes) (others : Arms) (rest : Nodes) (w u : List Work) (es : List Entry) (c : List ℕ) →
+        Stands code place p out pc (OfTest body others rest ∷ w) → Loops code place p out w → AreEntries es → AreCells c →
         length c + 1 ≤ high → length (return_places es base) ≤ return_high → Follows laws p code place size (There pc es c data_above return_above) 4 now high return_high (of_chooses body others rest w c (state u es c))
     of_follows out body others rest w u es [] h l fe fc room back = tt
     of_follows out body others rest w u es (x ∷ []) h l fe fc room back = tt
@@ -115,7 +129,9 @@ module _ (laws : Laws) (p : SourceProgram) (code : List ℕ) (place : ℕ → �
         comes laws p code place size (There pc es (x ∷ c) data_above return_above) 1 next 1 now high return_high out (state w es c) base d.0 d.1 (omega arith) (omega arith) due d.2
         (record { stands = s; loops = l; frames = frames; cells = fc.1; entries = fe; world = fits; starts = starts })
 
-    q_do_by : (equal : Bool) (out : Option ℕ) (body : Nodes) (plus : Bool) (w u : List Work) (start limit : ℕ) (es : List Entry) (c : List ℕ) → (h : Placed code place p out pc (ends_body w) (QDo body plus) (λ q. Stands code place p out q w)) → Loops code place p out w → tokens_of body + 2 + ahead w ≤ p.source_tokens →
+    q_do_by : (equal : Bool) (out : Option ℕ) (body : Nodes) (plus : Bool) (w u : List Work) (start limit : ℕ) (es : List Entry) (c : List ℕ) →
+        (h : Placed code place p out pc (ends_body w) (QDo body plus) (λ q. Stands code place p out q w)) → Loops code place p out w →
+        tokens_of body + 2 + ahead w ≤ p.source_tokens →
         AreEntries es → AreCells (start ∷ limit ∷ c) → length c + 4 ≤ high → length (return_places es base) + 1 ≤ return_high → Leads 3 pc es (start ∷ limit ∷ c) h.2.0 (flag equal ∷ start ∷ limit ∷ c) data_above return_above →
         Follows laws p code place size (There pc es (start ∷ limit ∷ c) data_above return_above) 12 now high return_high (if equal then Goes (state w es c) else loop_begins body plus w (start ∷ limit ∷ c) (state u es (start ∷ limit ∷ c)))
     q_do_by true out body plus w u start limit es c h l n fe fc room back g =
@@ -137,7 +153,9 @@ module _ (laws : Laws) (p : SourceProgram) (code : List ℕ) (place : ℕ → �
         (runs_then laws p.data_start high return_high 3 1 v (There h.2.0 es (0 ∷ both) g.0 g.1) (There h.0 es both (top (data_places both) ∷ g.0) g.1) g.2 b)
         (do_follows laws p code place size high return_high fs world fits starts base h.0 now (top (data_places both) ∷ g.0) g.1 frames due out body plus w u es both h.4 l n fe fc (omega arith) back)
 
-    pub q_do_follows : (out : Option ℕ) (body : Nodes) (plus : Bool) (w u : List Work) (es : List Entry) (c : List ℕ) → Placed code place p out pc (ends_body w) (QDo body plus) (λ q. Stands code place p out q w) → Loops code place p out w → tokens_of body + 2 + ahead w ≤ p.source_tokens → AreEntries es → AreCells c →
+    pub q_do_follows : (out : Option ℕ) (body : Nodes) (plus : Bool) (w u : List Work) (es : List Entry) (c : List ℕ) →
+        Placed code place p out pc (ends_body w) (QDo body plus) (λ q. Stands code place p out q w) → Loops code place p out w →
+        tokens_of body + 2 + ahead w ≤ p.source_tokens → AreEntries es → AreCells c →
         length c + 2 ≤ high → length (return_places es base) + 1 ≤ return_high → Follows laws p code place size (There pc es c data_above return_above) 12 now high return_high (loop_may_begin body plus w c (state u es c))
     q_do_follows out body plus w u es [] h l n fe fc room back = tt
     q_do_follows out body plus w u es (x ∷ []) h l n fe fc room back = tt

@@ -33,7 +33,8 @@ after_each P data_start zero v before = before.0
 after_each P data_start (suc n) v before = after_each P data_start n (advanced v.stop open_storage data_start v) before.1
 
 module _ (agree : ImagesAgree) (rings : RunsDoTheSame) (bounds_fit : BoundsFitRings) (bounds_join : BoundsJoin) (ends_stay : EndsStay) (grows : OnlyGrows open_storage)
-    (library : List Nodes) (p : SourceProgram) (input : List ℕ) (form : IsLibrary library) (means : LibraryMeans library) (built : IsBuilt library p) (space : AreBytes p.first_space) (bytes : AreBytes input) (well : (k : ℕ) → IsSafe p input k) (fit : (k : ℕ) → StacksFit p input 33 32 k) where
+    (library : List Nodes) (p : SourceProgram) (input : List ℕ) (form : IsLibrary library) (means : LibraryMeans library) (built : IsBuilt library p)
+    (space : AreBytes p.first_space) (bytes : AreBytes input) (well : (k : ℕ) → IsSafe p input k) (fit : (k : ℕ) → StacksFit p input 33 32 k) where
   abbrev start : OpenConfiguration
   start = begun (open_start (laid_out library p)) input
 
@@ -66,7 +67,8 @@ module _ (agree : ImagesAgree) (rings : RunsDoTheSame) (bounds_fit : BoundsFitRi
   alike n = rings (laid_out library p) input n (bounds_fit 0 33 0 32 n p.data_start start (omega arith) (omega arith) (fewer (StaysWithin 0 33 0 32) p.data_start n (suc n) start (omega arith) (always 33 32 fit n))) (knows n)
 
   -- a machine that has ended is where the source has ended
-  same_end : (n k : ℕ) (stop : Stop) (end : End) → (open_run (laid_out library p) input n).stop ≡ Some stop → end_of (source_run p input k) ≡ Some end → open_run (laid_out library p) input n ≡ open_run (laid_out library p) input (much k).count
+  same_end : (n k : ℕ) (stop : Stop) (end : End) → (open_run (laid_out library p) input n).stop ≡ Some stop → end_of (source_run p input k) ≡ Some end →
+      open_run (laid_out library p) input n ≡ open_run (laid_out library p) input (much k).count
   same_end n k stop end e f =
       let m = much k in
       let stop' = stop_now k end (source_run p input k) refl f in
@@ -85,7 +87,9 @@ module _ (agree : ImagesAgree) (rings : RunsDoTheSame) (bounds_fit : BoundsFitRi
   code_is : length (code_of library p) ≡ p.data_start / 2
   code_is = filled_length (p.data_start / 2) (laid_out library p).cells built.code_fits
 
-  holds : (high return_high : ℕ) → ((k : ℕ) → StacksFit p input high return_high k) → (n : ℕ) → DepthStaysWithin high (round_run (laid_out library p) input n).data_depth × DepthStaysWithin return_high (round_run (laid_out library p) input n).return_depth
+  holds : (high return_high : ℕ) → ((k : ℕ) → StacksFit p input high return_high k) → (n : ℕ) →
+      DepthStaysWithin high (round_run (laid_out library p) input n).data_depth
+      × DepthStaysWithin return_high (round_run (laid_out library p) input n).return_depth
   holds high return_high fits n =
       let w = after_each (StaysWithin 0 high 0 return_high) p.data_start n start (always high return_high fits n) in
       ((w.depth, sym (alike n).data_depth ∙ w.depth_is, w.at_most), (w.return_depth, sym (alike n).return_depth ∙ w.return_depth_is, w.return_at_most))
@@ -110,7 +114,9 @@ module _ (agree : ImagesAgree) (rings : RunsDoTheSame) (bounds_fit : BoundsFitRi
         let same = same_end n k stop end (a.stop ∙ e) f in (
           sym a.printed ∙ ap (λ v. v.printed) same ∙ m.shows.printed,
           sym a.input ∙ ap (λ v. v.input) same ∙ m.shows.input,
-          ap (drop (p.data_start / 2)) (sym a.core.memory ∙ ap (λ v. v.core.memory) same ∙ m.shows.memory) ∙ ap (λ i. drop i (code_of library p ++ (world_of (source_run p input k)).space)) (sym code_is) ∙ drop-append_seam (code_of library p) (world_of (source_run p input k)).space,
+          ap (drop (p.data_start / 2)) (sym a.core.memory ∙ ap (λ v. v.core.memory) same ∙ m.shows.memory)
+              ∙ ap (λ i. drop i (code_of library p ++ (world_of (source_run p input k)).space)) (sym code_is)
+              ∙ drop-append_seam (code_of library p) (world_of (source_run p input k)).space,
         );
     data_stack_holds = λ n. (holds 33 32 fit n).0;
     return_stack_holds = λ n. (holds 33 32 fit n).1;

@@ -14,7 +14,9 @@ use Rattle.forth_program.specs.declared.item.TextKind.TheVariants as text
 use Rattle.forth_program.specs.Form.{everywhere, inside, in_arms}
 use Rattle.std.specs.List.{list_all}
 use Rattle.code_layout.specs.Built.{text_is_laid_out, is_laid_out}
-use Rattle.code_layout.specs.Layout.{routine_of, type_routine, word_size, word_token_size, text_size, bodies_size, token_jumps, tokens_cells, execute_cells, abort_cells, library_place, execute_place, abort_place, first_place, tokens_place, turn_size, falls_through, reaches_end, size_if, else_size, node_size, size, arms_size, bodies_cells, routine_place}
+use Rattle.code_layout.specs.Layout.{routine_of, type_routine, word_size, word_token_size, text_size, bodies_size, token_jumps, tokens_cells, execute_cells}
+use Rattle.code_layout.specs.Layout.{abort_cells, library_place, execute_place, abort_place, first_place, tokens_place, turn_size, falls_through, reaches_end}
+use Rattle.code_layout.specs.Layout.{size_if, else_size, node_size, size, arms_size, bodies_cells, routine_place}
 use Rattle.code_layout.specs.Weights.{CodeIsLight, ItemsAreLight, TokensAreLight}
 use Rattle.code_layout.specs.Numbering.{library_number}
 use Rattle.code_layout.proofs.Image.{bodies_size_is, jumps_length}

@@ -7,12 +7,15 @@ use Rattle.forth_program.specs.declared.item.TextKind.{TextKind}
 use Rattle.forth_program.specs.declared.item.TextKind.TheVariants as text
 use Rattle.cell_math.specs.Cell.{sum_of, difference_of, signed}
 use Rattle.forth_program.specs.Tree.{Node, Nodes, Literal, Plain, Call, Child, Text, If, Until, While, Again, Do, QDo, Case, Leave, Exit, Empty, Then}
-use Rattle.forth_program.specs.State.{Entry, Cell, Loop, Work, Todo, TrueEnd, UntilTest, WhileTest, Repeat, BeginAgain, Turn, OfTest, EndOf, EndCase, Frame, World, State, Reply, Gives, Stops, ◌▸◌, End, Halted, Unbalanced, Outcome, Goes, Ends}
+use Rattle.forth_program.specs.State.{Entry, Cell, Loop, Work, Todo, TrueEnd, UntilTest, WhileTest, Repeat, BeginAgain, Turn, OfTest, EndOf, EndCase, Frame}
+use Rattle.forth_program.specs.State.{World, State, Reply, Gives, Stops, ◌▸◌, End, Halted, Unbalanced, Outcome, Goes, Ends}
 use Rattle.forth_program.specs.Program.{SourceProgram}
 use Rattle.forth_program.specs.Form.{everywhere, inside}
 use Rattle.forth_program.specs.ByteWords.{type_out}
 use Rattle.forth_program.specs.Meaning.{meaning}
-use Rattle.forth_program.specs.Step.{First, BodyEnd, IsLiteral, IsWord, IsCall, IsChild, IsText, IsIf, IsTrueEnd, IsUntil, IsWhile, IsRepeat, IsAgain, IsDo, IsQDo, IsTurn, IsOf, IsEndOf, IsEndCase, IsLeave, IsExit, before, first_in, first_among, first_work, on_cells, word_step, text_step, on_flag, closed_by, loop_begins, crosses, turned, turn, after_loop, leave, act, step}
+use Rattle.forth_program.specs.Step.{First, BodyEnd, IsLiteral, IsWord, IsCall, IsChild, IsText, IsIf, IsTrueEnd, IsUntil, IsWhile, IsRepeat, IsAgain, IsDo}
+use Rattle.forth_program.specs.Step.{IsQDo, IsTurn, IsOf, IsEndOf, IsEndCase, IsLeave, IsExit, before, first_in, first_among, first_work, on_cells, word_step}
+use Rattle.forth_program.specs.Step.{text_step, on_flag, closed_by, loop_begins, crosses, turned, turn, after_loop, leave, act, step}
 use Rattle.forth_program.specs.Run.{and_then, steps}
 use Rattle.forth_program.specs.Price.{step_price, spent}
 use Rattle.code_layout.specs.Library.{is_own}
@@ -191,28 +194,35 @@ module _ (es : List Entry) where
     text_deeper text.Abort a n (zero ∷ c) s own = (refl, (own, refl))
     text_deeper text.Abort a n (suc m ∷ c) s own = cells_deeper (type_out n a s.world ▸ λ _. Stops (Halted 2)) s own
 
-    if_deeper : (b : Bool) (s t : State) → t.callers ≡ s.callers → AllOwn s.work → AllOwn t.work → ((if b then Goes (deeper s) else Goes (deeper t)) ≡ deeper_outcome (if b then Goes s else Goes t)) × OwnAfter s.callers (if b then Goes s else Goes t)
+    if_deeper : (b : Bool) (s t : State) → t.callers ≡ s.callers → AllOwn s.work → AllOwn t.work →
+        ((if b then Goes (deeper s) else Goes (deeper t)) ≡ deeper_outcome (if b then Goes s else Goes t)) × OwnAfter s.callers (if b then Goes s else Goes t)
     if_deeper true s t same one two = (refl, (one, refl))
     if_deeper false s t same one two = (refl, (two, same))
 
     turned_deeper : (n : ℕ) (body : Nodes) (plus : Bool) (after : List Work) (entries : List Entry) (s : State) → everywhere is_own body ≡ true → AllOwn after → balanced (turned n body plus after entries s) ≡ true →
         (turned n body plus after (entries ++ es) (deeper s) ≡ deeper_outcome (turned n body plus after entries s)) × OwnAfter s.callers (turned n body plus after entries s)
     turned_deeper n body plus after (Loop limit index ∷ entries) s own own' sound =
-        if_deeper (crosses (signed (difference_of index limit)) (signed n)) (record s { work = after; entries = entries }) (record s { work = before body (Turn body plus ∷ after); entries = Loop limit (sum_of index n) ∷ entries }) refl own' (own_before body (Turn body plus ∷ after) own (own, own'))
+        if_deeper (crosses (signed (difference_of index limit)) (signed n)) (record s { work = after; entries = entries })
+        (record s { work = before body (Turn body plus ∷ after); entries = Loop limit (sum_of index n) ∷ entries }) refl own'
+        (own_before body (Turn body plus ∷ after) own (own, own'))
     turned_deeper n body plus after (Cell x ∷ entries) s own own' sound = lost sound
     turned_deeper n body plus after [] s own own' sound = lost sound
 
-    turn_deeper : (body : Nodes) (plus : Bool) (after : List Work) (c : List ℕ) (s : State) → everywhere is_own body ≡ true → AllOwn after → balanced (turn body plus after c s) ≡ true → (turn body plus after c (deeper s) ≡ deeper_outcome (turn body plus after c s)) × OwnAfter s.callers (turn body plus after c s)
+    turn_deeper : (body : Nodes) (plus : Bool) (after : List Work) (c : List ℕ) (s : State) → everywhere is_own body ≡ true → AllOwn after →
+        balanced (turn body plus after c s) ≡ true →
+        (turn body plus after c (deeper s) ≡ deeper_outcome (turn body plus after c s)) × OwnAfter s.callers (turn body plus after c s)
     turn_deeper body false after c s own own' sound = turned_deeper 1 body false after s.entries s own own' sound
     turn_deeper body true after (n ∷ c) s own own' sound = turned_deeper n body true after s.entries (record s { cells = c }) own own' sound
     turn_deeper body true after [] s own own' sound = (refl, tt)
 
-    leave_deeper : (after : List Work) (entries : List Entry) (s : State) → AllOwn after → balanced (leave after entries s) ≡ true → (leave after (entries ++ es) (deeper s) ≡ deeper_outcome (leave after entries s)) × OwnAfter s.callers (leave after entries s)
+    leave_deeper : (after : List Work) (entries : List Entry) (s : State) → AllOwn after → balanced (leave after entries s) ≡ true →
+        (leave after (entries ++ es) (deeper s) ≡ deeper_outcome (leave after entries s)) × OwnAfter s.callers (leave after entries s)
     leave_deeper after (Loop limit index ∷ entries) s own sound = (refl, (own_after_loop after own, refl))
     leave_deeper after (Cell x ∷ entries) s own sound = lost sound
     leave_deeper after [] s own sound = lost sound
 
-    loop_deeper : (body : Nodes) (plus : Bool) (after : List Work) (c : List ℕ) (s : State) → everywhere is_own body ≡ true → AllOwn after → (loop_begins body plus after c (deeper s) ≡ deeper_outcome (loop_begins body plus after c s)) × OwnAfter s.callers (loop_begins body plus after c s)
+    loop_deeper : (body : Nodes) (plus : Bool) (after : List Work) (c : List ℕ) (s : State) → everywhere is_own body ≡ true → AllOwn after →
+        (loop_begins body plus after c (deeper s) ≡ deeper_outcome (loop_begins body plus after c s)) × OwnAfter s.callers (loop_begins body plus after c s)
     loop_deeper body plus after [] s own own' = (refl, tt)
     loop_deeper body plus after (x ∷ []) s own own' = (refl, tt)
     loop_deeper body plus after (start ∷ limit ∷ c) s own own' = (refl, (own_before body (Turn body plus ∷ after) own (own, own'), refl))
@@ -310,7 +320,8 @@ module _ (es : List Entry) where
     runs_deeper (suc k) total s own busy sound =
         after (step p s) refl (step_deeper s (busy 0 s (omega arith) (no_steps s)) own (first_balanced k s sound)) (λ a own busy sound. runs_deeper k (total + step_price s) a own busy sound)
       where
-        after : (o : Outcome) → step p s ≡ o → (step p (deeper s) ≡ deeper_outcome (step p s)) × OwnAfter s.callers (step p s) → ((a : State) → AllOwn a.work → Busy k a → balanced (steps p k a) ≡ true → RunsDeeper k (total + step_price s) a) → RunsDeeper (suc k) total s
+        after : (o : Outcome) → step p s ≡ o → (step p (deeper s) ≡ deeper_outcome (step p s)) × OwnAfter s.callers (step p s) →
+            ((a : State) → AllOwn a.work → Busy k a → balanced (steps p k a) ≡ true → RunsDeeper k (total + step_price s) a) → RunsDeeper (suc k) total s
         after (Goes a) e d onward =
             let left = subst (OwnAfter s.callers) e d.1 in
             let deep : step p (deeper s) ≡ Goes (deeper a) = d.0 ∙ ap deeper_outcome e in

@@ -12,7 +12,9 @@ use Rattle.forth_program.specs.Parts.{token_node}
 use Rattle.forth_program.specs.Program.{SourceProgram}
 use Rattle.forth_program.specs.Form.{everywhere, inside, in_arms}
 use Rattle.code_layout.specs.declared.places.Places.{Places}
-use Rattle.code_layout.specs.Layout.{Routine, Definition, Library, Executing, Aborting, routine_of, type_routine, body_size, body_cells, bodies_cells, begins_at, bodies_size, execute_cells, abort_cells, token_cells, token_size, tokens_cells, token_place, token_jumps, jump_to, library_place, execute_place, abort_place, first_place, tokens_place, routine_place, header, laid_out}
+use Rattle.code_layout.specs.Layout.{Routine, Definition, Library, Executing, Aborting, routine_of, type_routine, body_size, body_cells, bodies_cells}
+use Rattle.code_layout.specs.Layout.{begins_at, bodies_size, execute_cells, abort_cells, token_cells, token_size, tokens_cells, token_place, token_jumps}
+use Rattle.code_layout.specs.Layout.{jump_to, library_place, execute_place, abort_place, first_place, tokens_place, routine_place, header, laid_out}
 use Rattle.code_layout.specs.Built.{word_is_laid_out, is_laid_out, token_is_laid_out, IsBuilt}
 use Rattle.code_layout.specs.Library.{each_uses_earlier, IsLibrary}
 use Rattle.code_layout.specs.Places.{ArePlaces, PlacesOf, places_from, place_by, word_count, definition_count, tokens_size}
@@ -159,7 +161,8 @@ Before data_start place words count whole code bodies =
     (code ++ bodies_cells data_start place (length code) bodies ≡ whole) × (list_all (everywhere (is_laid_out true words count)) bodies ≡ true) × (length code + bodies_size bodies ≤ 8000)
 
 -- one of them is added
-pub body_added : (data_start : ℕ) (place : Routine → ℕ) (words count : ℕ) (whole code after : List ℕ) (bodies : List Nodes) (k : ℕ) (body : Nodes) → k < length bodies → body ≡ slice_index_or bodies k Empty → after ≡ code ++ body_cells data_start place (length code) body →
+pub body_added : (data_start : ℕ) (place : Routine → ℕ) (words count : ℕ) (whole code after : List ℕ) (bodies : List Nodes) (k : ℕ) (body : Nodes) →
+    k < length bodies → body ≡ slice_index_or bodies k Empty → after ≡ code ++ body_cells data_start place (length code) body →
     Before data_start place words count whole code (drop k bodies) → Before data_start place words count whole after (drop (k + 1) bodies)
 body_added data_start place words count whole code after bodies k body lt is added before =
     let rest = drop (k + 1) bodies in
@@ -173,9 +176,11 @@ body_added data_start place words count whole code after bodies k body lt is add
     )
 
 -- the next of them is laid out
-pub body_laid : (words count : ℕ) (bodies : List Nodes) (k : ℕ) (body : Nodes) → k < length bodies → body ≡ slice_index_or bodies k Empty → list_all (everywhere (is_laid_out true words count)) (drop k bodies) ≡ true → everywhere (is_laid_out true words count) body ≡ true
+pub body_laid : (words count : ℕ) (bodies : List Nodes) (k : ℕ) (body : Nodes) → k < length bodies → body ≡ slice_index_or bodies k Empty →
+    list_all (everywhere (is_laid_out true words count)) (drop k bodies) ≡ true → everywhere (is_laid_out true words count) body ≡ true
 body_laid words count bodies k body lt is all =
-    (both (everywhere (is_laid_out true words count) body) (list_all (everywhere (is_laid_out true words count)) (drop (k + 1) bodies)) (subst (λ xs. list_all (everywhere (is_laid_out true words count)) xs ≡ true) (next_body bodies k body lt is) all)).0
+    (both (everywhere (is_laid_out true words count) body) (list_all (everywhere (is_laid_out true words count)) (drop (k + 1) bodies))
+    (subst (λ xs. list_all (everywhere (is_laid_out true words count)) xs ≡ true) (next_body bodies k body lt is) all)).0
 
 pub past_places : (places : List ℕ) (k : ℕ) → length places ≤ k → slice_index places k ≡ 0
 past_places places k past = get_or_past places k 0 past
@@ -190,14 +195,17 @@ JumpsBefore place words count whole code at tokens =
 next_token : (tokens : List Token) (i : ℕ) (d : Token) → i < length tokens → drop i tokens ≡ get_or tokens i d ∷ drop (i + 1) tokens
 next_token tokens i d lt = drop_more tokens i d lt
 
-pub token_laid : (words count : ℕ) (tokens : List Token) (i : ℕ) (d : Token) → i < length tokens → list_all (token_is_laid_out words count) (map token_node (drop i tokens)) ≡ true → token_is_laid_out words count (token_node (get_or tokens i d)) ≡ true
+pub token_laid : (words count : ℕ) (tokens : List Token) (i : ℕ) (d : Token) → i < length tokens →
+    list_all (token_is_laid_out words count) (map token_node (drop i tokens)) ≡ true → token_is_laid_out words count (token_node (get_or tokens i d)) ≡ true
 token_laid words count tokens i d lt all =
-    (both (token_is_laid_out words count (token_node (get_or tokens i d))) (list_all (token_is_laid_out words count) (map token_node (drop (i + 1) tokens))) (subst (λ xs. list_all (token_is_laid_out words count) (map token_node xs) ≡ true) (next_token tokens i d lt) all)).0
+    (both (token_is_laid_out words count (token_node (get_or tokens i d))) (list_all (token_is_laid_out words count) (map token_node (drop (i + 1) tokens)))
+    (subst (λ xs. list_all (token_is_laid_out words count) (map token_node xs) ≡ true) (next_token tokens i d lt) all)).0
 
 pub token_fits : (tokens : List Token) (i at : ℕ) (d : Token) → i < length tokens → at + tokens_size (map token_node (drop i tokens)) ≤ 8000 → at + token_size (token_node (get_or tokens i d)) ≤ 8000
 token_fits tokens i at d lt room = omega (arith, room, ap (λ xs. tokens_size (map token_node xs)) (next_token tokens i d lt))
 
-pub jump_added : (place : Routine → ℕ) (words count : ℕ) (whole code after : List ℕ) (at at' : ℕ) (tokens : List Token) (i : ℕ) (d : Token) → i < length tokens → after ≡ code ++ jump_to (token_place place at (token_node (get_or tokens i d))) ∷ [] →
+pub jump_added : (place : Routine → ℕ) (words count : ℕ) (whole code after : List ℕ) (at at' : ℕ) (tokens : List Token) (i : ℕ) (d : Token) →
+    i < length tokens → after ≡ code ++ jump_to (token_place place at (token_node (get_or tokens i d))) ∷ [] →
     at' ≡ at + token_size (token_node (get_or tokens i d)) → JumpsBefore place words count whole code at (drop i tokens) → JumpsBefore place words count whole after at' (drop (i + 1) tokens)
 jump_added place words count whole code after at at' tokens i d lt added moved before =
     let rest = drop (i + 1) tokens in
@@ -213,7 +221,8 @@ jump_added place words count whole code after at at' tokens i d lt added moved b
 abbrev pub TokensBefore : ℕ → (Routine → ℕ) → ℕ → ℕ → List ℕ → List ℕ → List Token → Type 0
 TokensBefore data_start place words count whole code tokens = (code ++ tokens_cells data_start place (map token_node tokens) ≡ whole) × (list_all (token_is_laid_out words count) (map token_node tokens) ≡ true)
 
-pub token_added : (data_start : ℕ) (place : Routine → ℕ) (words count : ℕ) (whole code after : List ℕ) (tokens : List Token) (i : ℕ) (d : Token) → i < length tokens → after ≡ code ++ token_cells data_start place (token_node (get_or tokens i d)) →
+pub token_added : (data_start : ℕ) (place : Routine → ℕ) (words count : ℕ) (whole code after : List ℕ) (tokens : List Token) (i : ℕ) (d : Token) →
+    i < length tokens → after ≡ code ++ token_cells data_start place (token_node (get_or tokens i d)) →
     TokensBefore data_start place words count whole code (drop i tokens) → TokensBefore data_start place words count whole after (drop (i + 1) tokens)
 token_added data_start place words count whole code after tokens i d lt added before =
     let rest = drop (i + 1) tokens in
@@ -233,7 +242,8 @@ pub after_jumps : (place : Routine → ℕ) (head jumped : List ℕ) (main_at to
 after_jumps place head jumped main_at tokens_at tokens head_is jumped_is =
     omega (arith, ap length jumped_is ∙ length-append head (token_jumps place tokens_at tokens), jumps_length place tokens_at tokens, ap length head_is)
 
-pub after_library : (data_start : ℕ) (place : Routine → ℕ) (jumped routines : List ℕ) (library : List Nodes) (execute count abort type_at : ℕ) → routines ≡ jumped ++ (bodies_cells data_start place (length jumped) library ++ (execute_cells execute count ++ abort_cells abort type_at)) →
+pub after_library : (data_start : ℕ) (place : Routine → ℕ) (jumped routines : List ℕ) (library : List Nodes) (execute count abort type_at : ℕ) →
+    routines ≡ jumped ++ (bodies_cells data_start place (length jumped) library ++ (execute_cells execute count ++ abort_cells abort type_at)) →
     length routines ≡ length jumped + bodies_size library + 30
 after_library data_start place jumped routines library execute count abort type_at routines_is =
     let stubs = execute_cells execute count ++ abort_cells abort type_at in
@@ -304,13 +314,76 @@ module _ (library : List Nodes) (p : SourceProgram) (built : IsBuilt library p) 
       let after_jumps : length jumped ≡ library_place p = omega (arith, ap length jumped_is ∙ length-append head jumps, jumps_length (place_by places) tokens_at p.tokens, eight) in
       let stubs = execute_cells places.execute (length p.tokens) ++ abort_cells places.abort (place_by places type_routine) in
       let of_library = bodies_cells p.data_start (place_by places) (length jumped) library in
-      let after_routines : length routines ≡ first_place library p = omega (arith, ap length routines_is ∙ length-append jumped (of_library ++ stubs), length-append of_library stubs, bodies_size_is p.data_start (place_by places) (length jumped) library, after_jumps) in
-      five_parts head jumped routines defined code (token_jumps (place_by places) tokens_at p.tokens) (bodies_cells p.data_start (place_by places) (length jumped) library) (execute_cells places.execute (length p.tokens)) (abort_cells places.abort (place_by places type_routine))
+      let after_routines : length routines ≡ first_place library p =
+      omega (
+        arith,
+        ap length routines_is ∙ length-append jumped (of_library ++ stubs),
+        length-append of_library stubs,
+        bodies_size_is p.data_start (place_by places) (length jumped) library,
+        after_jumps,
+      ) in
+      five_parts head jumped routines defined code (token_jumps (place_by places) tokens_at p.tokens)
+      (bodies_cells p.data_start (place_by places) (length jumped) library) (execute_cells places.execute (length p.tokens))
+      (abort_cells places.abort (place_by places type_routine))
       (bodies_cells p.data_start (place_by places) (length routines) p.bodies) (tokens_cells p.data_start (place_by places) p.tokens) jumped_is routines_is defined_is code_is
-      ∙ ap (λ q. head ++ (token_jumps (place_by places) tokens_at p.tokens ++ (bodies_cells p.data_start (place_by places) q library ++ (execute_cells places.execute (length p.tokens) ++ (abort_cells places.abort (place_by places type_routine) ++ (bodies_cells p.data_start (place_by places) (length routines) p.bodies ++ tokens_cells p.data_start (place_by places) p.tokens)))))) after_jumps
-      ∙ ap (λ q. head ++ (token_jumps (place_by places) tokens_at p.tokens ++ (bodies_cells p.data_start (place_by places) (library_place p) library ++ (execute_cells places.execute (length p.tokens) ++ (abort_cells places.abort (place_by places type_routine) ++ (bodies_cells p.data_start (place_by places) q p.bodies ++ tokens_cells p.data_start (place_by places) p.tokens)))))) after_routines
-      ∙ ap (λ (f : Routine → ℕ). head ++ (token_jumps f tokens_at p.tokens ++ (bodies_cells p.data_start f (library_place p) library ++ (execute_cells places.execute (length p.tokens) ++ (abort_cells places.abort (f type_routine) ++ (bodies_cells p.data_start f (first_place library p) p.bodies ++ tokens_cells p.data_start f p.tokens)))))) same
-      ∙ ap (λ q. head ++ (token_jumps (routine_place library p) q p.tokens ++ (bodies_cells p.data_start (routine_place library p) (library_place p) library ++ (execute_cells places.execute (length p.tokens) ++ (abort_cells places.abort (routine_place library p type_routine) ++ (bodies_cells p.data_start (routine_place library p) (first_place library p) p.bodies ++ tokens_cells p.data_start (routine_place library p) p.tokens)))))) tokens
-      ∙ ap (λ q. head ++ (token_jumps (routine_place library p) (tokens_place library p) p.tokens ++ (bodies_cells p.data_start (routine_place library p) (library_place p) library ++ (execute_cells q (length p.tokens) ++ (abort_cells places.abort (routine_place library p type_routine) ++ (bodies_cells p.data_start (routine_place library p) (first_place library p) p.bodies ++ tokens_cells p.data_start (routine_place library p) p.tokens)))))) are.execute
-      ∙ ap (λ q. head ++ (token_jumps (routine_place library p) (tokens_place library p) p.tokens ++ (bodies_cells p.data_start (routine_place library p) (library_place p) library ++ (execute_cells (execute_place library p) (length p.tokens) ++ (abort_cells q (routine_place library p type_routine) ++ (bodies_cells p.data_start (routine_place library p) (first_place library p) p.bodies ++ tokens_cells p.data_start (routine_place library p) p.tokens)))))) are.abort
-      ∙ ap (λ xs. xs ++ (token_jumps (routine_place library p) (tokens_place library p) p.tokens ++ (bodies_cells p.data_start (routine_place library p) (library_place p) library ++ (execute_cells (execute_place library p) (length p.tokens) ++ (abort_cells (abort_place library p) (routine_place library p type_routine) ++ (bodies_cells p.data_start (routine_place library p) (first_place library p) p.bodies ++ tokens_cells p.data_start (routine_place library p) p.tokens)))))) (head_is ∙ ap header main)
+      ∙ ap
+      (λ q.
+      head
+      ++ (token_jumps (place_by places) tokens_at p.tokens
+      ++ (bodies_cells p.data_start (place_by places) q library
+      ++ (execute_cells places.execute (length p.tokens)
+      ++ (abort_cells places.abort (place_by places type_routine)
+      ++ (bodies_cells p.data_start (place_by places) (length routines) p.bodies ++ tokens_cells p.data_start (place_by places) p.tokens))))))
+      after_jumps
+      ∙ ap
+      (λ q.
+      head
+      ++ (token_jumps (place_by places) tokens_at p.tokens
+      ++ (bodies_cells p.data_start (place_by places) (library_place p) library
+      ++ (execute_cells places.execute (length p.tokens)
+      ++ (abort_cells places.abort (place_by places type_routine)
+      ++ (bodies_cells p.data_start (place_by places) q p.bodies ++ tokens_cells p.data_start (place_by places) p.tokens)))))) after_routines
+      ∙ ap
+      (λ (f : Routine → ℕ).
+      head
+      ++ (token_jumps f tokens_at p.tokens
+      ++ (bodies_cells p.data_start f (library_place p) library
+      ++ (execute_cells places.execute (length p.tokens)
+      ++ (abort_cells places.abort (f type_routine)
+      ++ (bodies_cells p.data_start f (first_place library p) p.bodies ++ tokens_cells p.data_start f p.tokens)))))) same
+      ∙ ap
+      (λ q.
+      head
+      ++ (token_jumps (routine_place library p) q p.tokens
+      ++ (bodies_cells p.data_start (routine_place library p) (library_place p) library
+      ++ (execute_cells places.execute (length p.tokens)
+      ++ (abort_cells places.abort (routine_place library p type_routine)
+      ++ (bodies_cells p.data_start (routine_place library p) (first_place library p) p.bodies
+      ++ tokens_cells p.data_start (routine_place library p) p.tokens)))))) tokens
+      ∙ ap
+      (λ q.
+      head
+      ++ (token_jumps (routine_place library p) (tokens_place library p) p.tokens
+      ++ (bodies_cells p.data_start (routine_place library p) (library_place p) library
+      ++ (execute_cells q (length p.tokens)
+      ++ (abort_cells places.abort (routine_place library p type_routine)
+      ++ (bodies_cells p.data_start (routine_place library p) (first_place library p) p.bodies
+      ++ tokens_cells p.data_start (routine_place library p) p.tokens)))))) are.execute
+      ∙ ap
+      (λ q.
+      head
+      ++ (token_jumps (routine_place library p) (tokens_place library p) p.tokens
+      ++ (bodies_cells p.data_start (routine_place library p) (library_place p) library
+      ++ (execute_cells (execute_place library p) (length p.tokens)
+      ++ (abort_cells q (routine_place library p type_routine)
+      ++ (bodies_cells p.data_start (routine_place library p) (first_place library p) p.bodies
+      ++ tokens_cells p.data_start (routine_place library p) p.tokens)))))) are.abort
+      ∙ ap
+      (λ xs.
+      xs
+      ++ (token_jumps (routine_place library p) (tokens_place library p) p.tokens
+      ++ (bodies_cells p.data_start (routine_place library p) (library_place p) library
+      ++ (execute_cells (execute_place library p) (length p.tokens)
+      ++ (abort_cells (abort_place library p) (routine_place library p type_routine)
+      ++ (bodies_cells p.data_start (routine_place library p) (first_place library p) p.bodies
+      ++ tokens_cells p.data_start (routine_place library p) p.tokens)))))) (head_is ∙ ap header main)

@@ -66,26 +66,32 @@ module _ (laws : Laws) (p : SourceProgram) (code : List ℕ) (place : ℕ → �
         (r.0, r.1, subst (λ n. Runs p.data_start high return_high n (at_place pc es c above above') (at_place next es (value ∷ c) r.0 r.1)) one r.2)
 
     -- words
-    some_words : (words : List Word) (es es' : List Entry) (c c' : List ℕ) (pc next : ℕ) (above above' : List (Option ℕ)) → list_all is_free words ≡ true → outcome p high return_high (Some 2 ∷ []) words (here es c) ≡ Goes (here es' c') → CellsSuffice p high return_high (Some 2 ∷ []) words (here es c) →
-        StandIn code pc (phrase words) next → AreEntries es → AreCells c → (up : List (Option ℕ)) × (up' : List (Option ℕ)) × Runs p.data_start high return_high (length (phrase words)) (at_place pc es c above above') (at_place next es' c' up up')
+    some_words : (words : List Word) (es es' : List Entry) (c c' : List ℕ) (pc next : ℕ) (above above' : List (Option ℕ)) → list_all is_free words ≡ true →
+        outcome p high return_high (Some 2 ∷ []) words (here es c) ≡ Goes (here es' c') → CellsSuffice p high return_high (Some 2 ∷ []) words (here es c) →
+        StandIn code pc (phrase words) next → AreEntries es → AreCells c →
+        (up : List (Option ℕ)) × (up' : List (Option ℕ))
+        × Runs p.data_start high return_high (length (phrase words)) (at_place pc es c above above') (at_place next es' c' up up')
     some_words words es es' c c' pc next above above' free leads enough stands fe fc =
         phrase_runs p high return_high (Some 2 ∷ []) laws code size words (here es c) (here es' c') pc next above above' free leads enough stands fc fe fits starts
 
     branched : (target pc : ℕ) (es : List Entry) (c : List ℕ) (above above' : List (Option ℕ)) → HoldsInstruction code pc (Branch target) → length c + 1 ≤ high → length (places_below es) ≤ return_high →
         Runs p.data_start high return_high 1 (at_place pc es (0 ∷ c) above above') (at_place target es c (top (data_places c) ∷ above) above')
     branched target pc es c above above' holds room back =
-        runs_one laws p.data_start (suc (length c)) (length (places_below es)) high return_high (at_place pc es (0 ∷ c) above above') _ (omega arith) back (laws.branches p.data_start target pc code c (places_below es) above above' world holds)
+        runs_one laws p.data_start (suc (length c)) (length (places_below es)) high return_high (at_place pc es (0 ∷ c) above above') _ (omega arith) back
+        (laws.branches p.data_start target pc code c (places_below es) above above' world holds)
 
     passed : (target pc n : ℕ) (es : List Entry) (c : List ℕ) (above above' : List (Option ℕ)) → HoldsInstruction code pc (Branch target) → length c + 1 ≤ high → length (places_below es) ≤ return_high →
         Runs p.data_start high return_high 1 (at_place pc es (suc n ∷ c) above above') (at_place (following pc) es c (top (data_places c) ∷ above) above')
     passed target pc n es c above above' holds room back =
-        runs_one laws p.data_start (suc (length c)) (length (places_below es)) high return_high (at_place pc es (suc n ∷ c) above above') _ (omega arith) back (laws.passes p.data_start target pc n code c (places_below es) above above' world holds)
+        runs_one laws p.data_start (suc (length c)) (length (places_below es)) high return_high (at_place pc es (suc n ∷ c) above above') _ (omega arith) back
+        (laws.passes p.data_start target pc n code c (places_below es) above above' world holds)
 
     halting : (status : ℕ) → status < 256 → store 16388 status world ≡ Stops (Halted status) world
     halting status low = let same : status % 256 ≡ status = omega arith in ap (λ d. store_by world status (access_at d true 16388)) starts ∙ ap (λ n. Stops (Halted n) world) same
 
     -- a value that is stored at the halt port ends the run
-    store_ends : (status pc next : ℕ) (es : List Entry) (c : List ℕ) (above above' : List (Option ℕ)) → status < 256 → StandIn code pc (cells_of Store) next → AreEntries es → AreCells c → length c + 2 ≤ high → length (places_below es) ≤ return_high →
+    store_ends : (status pc next : ℕ) (es : List Entry) (c : List ℕ) (above above' : List (Option ℕ)) → status < 256 → StandIn code pc (cells_of Store) next →
+        AreEntries es → AreCells c → length c + 2 ≤ high → length (places_below es) ≤ return_high →
         HasCome code next (Some 2 ∷ []) (run open_storage p.data_start 2 (at_place pc es (16388 ∷ status ∷ c) above above')) (Ends (Halted status) world)
         × BeforeEach (StaysWithin 0 high 0 return_high) p.data_start 2 (at_place pc es (16388 ∷ status ∷ c) above above')
         × StaysWithin 0 high 0 return_high (run open_storage p.data_start 2 (at_place pc es (16388 ∷ status ∷ c) above above'))
@@ -96,20 +102,30 @@ module _ (laws : Laws) (p : SourceProgram) (code : List ℕ) (place : ℕ → �
         let ready = word_ready p high return_high (Some 2 ∷ []) laws code size Store s pc next refl tt (ap lacks e) stands (omega arith, (omega arith, fc)) fe starts in (
           word_comes p high return_high (Some 2 ∷ []) laws code size Store s pc next above above' (Ends (Halted status) world) ready starts e,
           word_bounded p high return_high (Some 2 ∷ []) laws code size Store s pc next above above' ready starts (omega arith) (omega arith),
-          narrower laws p.data_start (length s.cells - (entry_of Store).need) (length s.cells + (entry_of Store).peak) (length (places_below es) - return_need Store) (length (places_below es) + (entry_of Store).back) high return_high (run open_storage p.data_start 2 v) (omega arith) (omega arith)
-              (subst (λ d. StaysWithin (length s.cells - (entry_of Store).need) (length s.cells + (entry_of Store).peak) (length (places_below es) - return_need Store) (length (places_below es) + (entry_of Store).back) (run open_storage d 2 (at_place pc es (16388 ∷ status ∷ c) above above'))) starts
+          narrower laws p.data_start (length s.cells - (entry_of Store).need) (length s.cells + (entry_of Store).peak)
+              (length (places_below es) - return_need Store) (length (places_below es) + (entry_of Store).back) high return_high
+              (run open_storage p.data_start 2 v) (omega arith) (omega arith)
+              (subst
+              (λ d.
+              StaysWithin (length s.cells - (entry_of Store).need) (length s.cells + (entry_of Store).peak)
+              (length (places_below es) - return_need Store) (length (places_below es) + (entry_of Store).back)
+              (run open_storage d 2 (at_place pc es (16388 ∷ status ∷ c) above above'))) starts
               (laws.word_ends p Store code pc next s (Some 2 ∷ []) above above' (Halted status) world ready e)),
         )
 
     -- a status is put on the cells and stored at the halt port
-    halts_with : (status pc middle next last n price : ℕ) (v : OpenConfiguration) (es : List Entry) (c : List ℕ) (above above' : List (Option ℕ)) → status < 256 → StandIn code pc (number_cells status) middle → StandIn code middle (number_cells 16388) next → StandIn code next (cells_of Store) last → AreEntries es → AreCells c →
+    halts_with : (status pc middle next last n price : ℕ) (v : OpenConfiguration) (es : List Entry) (c : List ℕ) (above above' : List (Option ℕ)) →
+        status < 256 → StandIn code pc (number_cells status) middle → StandIn code middle (number_cells 16388) next → StandIn code next (cells_of Store) last →
+        AreEntries es → AreCells c →
         length c + 2 ≤ high → length (places_below es) ≤ return_high → n + 4 + 2 ≤ price + 3 → Runs p.data_start high return_high n v (at_place pc es c above above') → Stopped p.data_start code v price high return_high (Halted status) world
     halts_with status pc middle next last n price v es c above above' low stands stands' stands'' fe fc room back cheap runs =
         let r = one_number status pc middle es c above above' (omega arith) stands (omega arith) back in
         let r' = one_number 16388 middle next es (status ∷ c) r.0 r.1 (omega arith) stands' (omega arith) back in
         let e = store_ends status next last es c r'.0 r'.1 low stands'' fe fc room back in
         let there = at_place next es (16388 ∷ status ∷ c) r'.0 r'.1 in
-        let all : Runs p.data_start high return_high (n + 1 + 1) v there = runs_then laws p.data_start high return_high (n + 1) 1 v (at_place middle es (status ∷ c) r.0 r.1) there (runs_then laws p.data_start high return_high n 1 v (at_place pc es c above above') (at_place middle es (status ∷ c) r.0 r.1) runs r.2) r'.2 in
+        let all : Runs p.data_start high return_high (n + 1 + 1) v there =
+        runs_then laws p.data_start high return_high (n + 1) 1 v (at_place middle es (status ∷ c) r.0 r.1) there
+        (runs_then laws p.data_start high return_high n 1 v (at_place pc es c above above') (at_place middle es (status ∷ c) r.0 r.1) runs r.2) r'.2 in
         let joined : run open_storage p.data_start (n + 1 + 1 + 2) v ≡ run open_storage p.data_start 2 there = laws.runs_join (n + 1 + 1) 2 p.data_start v ∙ ap (run open_storage p.data_start 2) all.makes in
         let come = subst (λ u. HasCome code last (Some 2 ∷ []) u (Ends (Halted status) world)) (sym joined) e.0 in
         record {
@@ -193,12 +209,22 @@ module _ (laws : Laws) (p : SourceProgram) (code : List ℕ) (place : ℕ → �
           let r = some_words high return_high w fits starts (ToR ∷ ToR ∷ []) es (Cell a ∷ Cell u ∷ es) (u ∷ a ∷ suc m ∷ c) (suc m ∷ c) at (at + 2) data_above return_above refl refl (grind arith) parts.pushes fe fc in
           let b = passed high return_high w fits starts (at + 10) (at + 2) m (Cell a ∷ Cell u ∷ es) c r.0 r.1 parts.branch (omega arith) (omega arith) in
           let three : following (at + 2) ≡ at + 3 = omega arith in
-          let b' = subst (λ q. Runs p.data_start high return_high 1 (at_place high return_high w fits starts (at + 2) (Cell a ∷ Cell u ∷ es) (suc m ∷ c) r.0 r.1) (at_place high return_high w fits starts q (Cell a ∷ Cell u ∷ es) c (top (data_places c) ∷ r.0) r.1)) three b in
-          let d = some_words high return_high w fits starts (RFrom ∷ RFrom ∷ []) (Cell a ∷ Cell u ∷ es) es c (u ∷ a ∷ c) (at + 3) (at + 5) (top (data_places c) ∷ r.0) r.1 refl refl (grind arith) parts.pulls (fc.1.0, (fc.0, fe)) fc.1.1.1 in (
+          let b' =
+          subst
+          (λ q.
+          Runs p.data_start high return_high 1 (at_place high return_high w fits starts (at + 2) (Cell a ∷ Cell u ∷ es) (suc m ∷ c) r.0 r.1)
+          (at_place high return_high w fits starts q (Cell a ∷ Cell u ∷ es) c (top (data_places c) ∷ r.0) r.1)) three b in
+          let d =
+          some_words high return_high w fits starts (RFrom ∷ RFrom ∷ []) (Cell a ∷ Cell u ∷ es) es c (u ∷ a ∷ c) (at + 3) (at + 5)
+          (top (data_places c) ∷ r.0) r.1 refl refl (grind arith) parts.pulls (fc.1.0, (fc.0, fe)) fc.1.1.1 in (
             d.0,
             d.1,
-            runs_then laws p.data_start high return_high 3 2 v (at_place high return_high w fits starts (at + 3) (Cell a ∷ Cell u ∷ es) c (top (data_places c) ∷ r.0) r.1) (at_place high return_high w fits starts (at + 5) es (u ∷ a ∷ c) d.0 d.1)
-                (runs_then laws p.data_start high return_high 2 1 v (at_place high return_high w fits starts (at + 2) (Cell a ∷ Cell u ∷ es) (suc m ∷ c) r.0 r.1) (at_place high return_high w fits starts (at + 3) (Cell a ∷ Cell u ∷ es) c (top (data_places c) ∷ r.0) r.1) r.2 b') d.2,
+            runs_then laws p.data_start high return_high 3 2 v
+                (at_place high return_high w fits starts (at + 3) (Cell a ∷ Cell u ∷ es) c (top (data_places c) ∷ r.0) r.1)
+                (at_place high return_high w fits starts (at + 5) es (u ∷ a ∷ c) d.0 d.1)
+                (runs_then laws p.data_start high return_high 2 1 v
+                (at_place high return_high w fits starts (at + 2) (Cell a ∷ Cell u ∷ es) (suc m ∷ c) r.0 r.1)
+                (at_place high return_high w fits starts (at + 3) (Cell a ∷ Cell u ∷ es) c (top (data_places c) ∷ r.0) r.1) r.2 b') d.2,
           )
 
       abbrev up : List (Option ℕ)
@@ -220,18 +246,27 @@ module _ (laws : Laws) (p : SourceProgram) (code : List ℕ) (place : ℕ → �
       typed w' r =
           let parts = abort_parts in
           let cheap = r.cheap in
-          let back = back_here laws p code place size high return_high (at + 5) 0 None [] w fits starts (Some 2 ∷ []) up up' refl (omega arith) type_at (29 + 80 * u) (29 + 80 * u) 8 6 [] es (u ∷ a ∷ c) parts.call (omega arith) (omega arith) (omega arith) (omega arith) c w' r in
+          let back =
+          back_here laws p code place size high return_high (at + 5) 0 None [] w fits starts (Some 2 ∷ []) up up' refl (omega arith) type_at
+          (29 + 80 * u) (29 + 80 * u) 8 6 [] es (u ∷ a ∷ c) parts.call (omega arith) (omega arith) (omega arith) (omega arith) c w' r in
           let six : following (at + 5) ≡ at + 6 = omega arith in
           let above' = Some (2 * following (at + 5)) ∷ r.above' in
           let there = at_place high return_high w' r.world_is r.starts (at + 6) es c r.above (Some (2 * following (at + 5)) ∷ r.above') in
-          let back' = subst (λ q. Runs p.data_start high return_high (1 + r.count + 1) (at_place high return_high w fits starts (at + 5) es (u ∷ a ∷ c) up up') (standing_at_depths code q c (places_below es) r.above (Some (2 * following (at + 5)) ∷ r.above') w')) six back in
-          halts_with high return_high w' r.world_is r.starts 2 (at + 6) (at + 7) (at + 8) (at + 10) (5 + (1 + r.count + 1)) (38 + 80 * u) v es c r.above (Some (2 * following (at + 5)) ∷ r.above') (omega arith) parts.status parts.port parts.store fe fc.1.1.1 (omega arith) (omega arith) (omega arith)
+          let back' =
+          subst
+          (λ q.
+          Runs p.data_start high return_high (1 + r.count + 1) (at_place high return_high w fits starts (at + 5) es (u ∷ a ∷ c) up up')
+          (standing_at_depths code q c (places_below es) r.above (Some (2 * following (at + 5)) ∷ r.above') w')) six back in
+          halts_with high return_high w' r.world_is r.starts 2 (at + 6) (at + 7) (at + 8) (at + 10) (5 + (1 + r.count + 1)) (38 + 80 * u) v es c r.above
+          (Some (2 * following (at + 5)) ∷ r.above') (omega arith) parts.status parts.port parts.store fe fc.1.1.1 (omega arith) (omega arith) (omega arith)
           (runs_then laws p.data_start high return_high 5 (1 + r.count + 1) v (at_place high return_high w fits starts (at + 5) es (u ∷ a ∷ c) up up') there up_to_type.2 back')
 
       stopped : (end : End) (w' : World) → Stopped p.data_start code called (29 + 80 * u) (length (u ∷ a ∷ c) + 8) (length (places_below below) + 6 - 1) end w' → Stopped p.data_start code v (38 + 80 * u) high return_high end w'
       stopped end w' r =
           let parts = abort_parts in
-          let h = ends_called laws p code place size high return_high (at + 5) 0 None [] w fits starts (Some 2 ∷ []) up up' refl (omega arith) type_at (29 + 80 * u) (29 + 80 * u) 8 6 [] es (u ∷ a ∷ c) parts.call (omega arith) (omega arith) (omega arith) (omega arith) end w' r in
+          let h =
+          ends_called laws p code place size high return_high (at + 5) 0 None [] w fits starts (Some 2 ∷ []) up up' refl (omega arith) type_at
+          (29 + 80 * u) (29 + 80 * u) 8 6 [] es (u ∷ a ∷ c) parts.call (omega arith) (omega arith) (omega arith) (omega arith) end w' r in
           let runs = up_to_type.2 in
           let middle = at_place high return_high w fits starts (at + 5) es (u ∷ a ∷ c) up up' in
           let joined : run open_storage p.data_start (5 + h.count) v ≡ run open_storage p.data_start h.count middle = laws.runs_join 5 h.count p.data_start v ∙ ap (run open_storage p.data_start h.count) runs.makes in
@@ -246,7 +281,9 @@ module _ (laws : Laws) (p : SourceProgram) (code : List ℕ) (place : ℕ → �
             cheap = omega arith;
           }
 
-      aborts : (q : Reply (Unit {0})) → Answers p.data_start code called (29 + 80 * u) (length (u ∷ a ∷ c) + 8) (length (places_below below) + 6 - 1) below (q ▸ λ _. Gives c) → Answers p.data_start code v (38 + 80 * u) high return_high es (q ▸ λ _. Stops (Halted 2))
+      aborts : (q : Reply (Unit {0})) →
+          Answers p.data_start code called (29 + 80 * u) (length (u ∷ a ∷ c) + 8) (length (places_below below) + 6 - 1) below (q ▸ λ _. Gives c) →
+          Answers p.data_start code v (38 + 80 * u) high return_high es (q ▸ λ _. Stops (Halted 2))
       aborts (Gives x w') r = typed w' r
       aborts (Stops Underflow w') r = tt
       aborts (Stops Unbalanced w') r = tt
@@ -255,7 +292,13 @@ module _ (laws : Laws) (p : SourceProgram) (code : List ℕ) (place : ℕ → �
       aborts (Stops (Outside address) w') r = stopped (Outside address) w' r
 
       true_flag : Answers p.data_start code v (38 + 80 * u) high return_high es (abort_reply u a (suc m) c w)
-      true_flag = aborts (type_out u a w) (routine.does below (u ∷ a ∷ c) up (rest up') w (low_address (at + 5), entries_join es (flattened laws p code place size [] (Some 2 ∷ []) refl).0 fe (flattened laws p code place size [] (Some 2 ∷ []) refl).2) cells fits starts)
+      true_flag =
+          aborts (type_out u a w)
+          (routine.does below (u ∷ a ∷ c) up (rest up') w (
+            low_address (at + 5),
+            entries_join es (flattened laws p code place size [] (Some 2 ∷ []) refl).0 fe (flattened laws p code place size [] (Some 2 ∷ []) refl).2,
+          ) cells
+          fits starts)
 
     false_flag : (es : List Entry) (u a : ℕ) (c : List ℕ) (data_above return_above : List (Option ℕ)) (w : World) → AreEntries es → AreCells (u ∷ a ∷ 0 ∷ c) → IsWorld w → w.data_start ≡ p.data_start →
         Returned p.data_start code (standing_at_depths code at (u ∷ a ∷ 0 ∷ c) (places_below es) data_above return_above w) 38 (length (u ∷ a ∷ 0 ∷ c) + 9) (length (places_below es) + 8 - 1) es c w
@@ -266,14 +309,20 @@ module _ (laws : Laws) (p : SourceProgram) (code : List ℕ) (place : ℕ → �
         let v = standing_at_depths code at (u ∷ a ∷ 0 ∷ c) (places_below es) data_above return_above w in
         let r = some_words high return_high w fits starts (ToR ∷ ToR ∷ []) es (Cell a ∷ Cell u ∷ es) (u ∷ a ∷ 0 ∷ c) (0 ∷ c) at (at + 2) data_above return_above refl refl (grind arith) parts.pushes fe fc in
         let b = branched high return_high w fits starts (at + 10) (at + 2) (Cell a ∷ Cell u ∷ es) c r.0 r.1 parts.branch (omega arith) (omega arith) in
-        let d = some_words high return_high w fits starts (RFrom ∷ DropTop ∷ RFrom ∷ DropTop ∷ []) (Cell a ∷ Cell u ∷ es) es c c (at + 10) (at + 14) (top (data_places c) ∷ r.0) r.1 refl refl (grind arith) parts.drops (fc.1.0, (fc.0, fe)) fc.1.1.1 in
+        let d =
+        some_words high return_high w fits starts (RFrom ∷ DropTop ∷ RFrom ∷ DropTop ∷ []) (Cell a ∷ Cell u ∷ es) es c c (at + 10) (at + 14)
+        (top (data_places c) ∷ r.0) r.1 refl refl (grind arith) parts.drops (fc.1.0, (fc.0, fe)) fc.1.1.1 in
         record {
           count = 7;
           to = at + 14;
           above = d.0;
           above' = d.1;
-          runs = runs_then laws p.data_start high return_high 3 4 v (at_place high return_high w fits starts (at + 10) (Cell a ∷ Cell u ∷ es) c (top (data_places c) ∷ r.0) r.1) (at_place high return_high w fits starts (at + 14) es c d.0 d.1)
-              (runs_then laws p.data_start high return_high 2 1 v (at_place high return_high w fits starts (at + 2) (Cell a ∷ Cell u ∷ es) (0 ∷ c) r.0 r.1) (at_place high return_high w fits starts (at + 10) (Cell a ∷ Cell u ∷ es) c (top (data_places c) ∷ r.0) r.1) r.2 b) d.2;
+          runs =
+              runs_then laws p.data_start high return_high 3 4 v
+              (at_place high return_high w fits starts (at + 10) (Cell a ∷ Cell u ∷ es) c (top (data_places c) ∷ r.0) r.1)
+              (at_place high return_high w fits starts (at + 14) es c d.0 d.1)
+              (runs_then laws p.data_start high return_high 2 1 v (at_place high return_high w fits starts (at + 2) (Cell a ∷ Cell u ∷ es) (0 ∷ c) r.0 r.1)
+              (at_place high return_high w fits starts (at + 10) (Cell a ∷ Cell u ∷ es) c (top (data_places c) ∷ r.0) r.1) r.2 b) d.2;
           returns = parts.returns;
           cheap = omega arith;
           few = omega arith;
@@ -283,7 +332,8 @@ module _ (laws : Laws) (p : SourceProgram) (code : List ℕ) (place : ℕ → �
         }
 
     flagged : (es : List Entry) (u a flag : ℕ) (c : List ℕ) (data_above return_above : List (Option ℕ)) (w : World) → AreEntries es → AreCells (u ∷ a ∷ flag ∷ c) → IsWorld w → w.data_start ≡ p.data_start →
-        Answers p.data_start code (standing_at_depths code at (u ∷ a ∷ flag ∷ c) (places_below es) data_above return_above w) (abort_price u flag) (length (u ∷ a ∷ flag ∷ c) + 9) (length (places_below es) + 8 - 1) es (abort_reply u a flag c w)
+        Answers p.data_start code (standing_at_depths code at (u ∷ a ∷ flag ∷ c) (places_below es) data_above return_above w) (abort_price u flag)
+        (length (u ∷ a ∷ flag ∷ c) + 9) (length (places_below es) + 8 - 1) es (abort_reply u a flag c w)
     flagged es u a zero c data_above return_above w fe fc fits starts = false_flag es u a c data_above return_above w fe fc fits starts
     flagged es u a (suc m) c data_above return_above w fe fc fits starts = true_flag es u a m c data_above return_above w fe fc fits starts
 
@@ -370,7 +420,10 @@ module _ (laws : Laws) (p : SourceProgram) (code : List ℕ) (place : ℕ → �
           let small : difference_of t 1 < 65536 = omega arith in
           let a = some_words execute_high execute_returns w fits starts (Dup ∷ OneMinus ∷ []) es es (t ∷ c) (difference_of t 1 ∷ t ∷ c) at (at + 2) data_above return_above refl refl (grind arith) parts.doubles fe fc in
           let b = one_number execute_high execute_returns w fits starts count (at + 2) (at + 3) es (difference_of t 1 ∷ t ∷ c) a.0 a.1 (omega arith) parts.number (omega arith) (omega arith) in
-          let d = some_words execute_high execute_returns w fits starts (ULess ∷ []) es es (count ∷ difference_of t 1 ∷ t ∷ c) (flag (nat_lt (difference_of t 1) count) ∷ t ∷ c) (at + 3) (at + 4) b.0 b.1 refl refl (grind arith) parts.compares fe (omega arith, (small, fc)) in (
+          let d =
+          some_words execute_high execute_returns w fits starts (ULess ∷ []) es es (count ∷ difference_of t 1 ∷ t ∷ c)
+          (flag (nat_lt (difference_of t 1) count) ∷ t ∷ c) (at + 3) (at + 4) b.0 b.1 refl refl (grind arith) parts.compares fe
+          (omega arith, (small, fc)) in (
             d.0,
             d.1,
             runs_then laws p.data_start execute_high execute_returns 3 1 begins (then_at (at + 3) es (count ∷ difference_of t 1 ∷ t ∷ c) b.0 b.1) (then_at (at + 4) es (flag (nat_lt (difference_of t 1) count) ∷ t ∷ c) d.0 d.1)
@@ -383,7 +436,8 @@ module _ (laws : Laws) (p : SourceProgram) (code : List ℕ) (place : ℕ → �
           let a = compared in
           let a' = subst (λ b. Runs p.data_start execute_high execute_returns 4 begins (then_at (at + 4) es (flag b ∷ t ∷ c) a.0 a.1)) e a.2 in
           let b = branched execute_high execute_returns w fits starts (at + 11) (at + 4) es (t ∷ c) a.0 a.1 parts.branch (omega arith) (omega arith) in
-          halts_with execute_high execute_returns w fits starts 13 (at + 11) (at + 12) (at + 13) (at + 15) 5 20 begins es (t ∷ c) (top (data_places (t ∷ c)) ∷ a.0) a.1 (omega arith) parts.status parts.port parts.store fe fc (omega arith) (omega arith) (omega arith)
+          halts_with execute_high execute_returns w fits starts 13 (at + 11) (at + 12) (at + 13) (at + 15) 5 20 begins es (t ∷ c)
+          (top (data_places (t ∷ c)) ∷ a.0) a.1 (omega arith) parts.status parts.port parts.store fe fc (omega arith) (omega arith) (omega arith)
           (runs_then laws p.data_start execute_high execute_returns 4 1 begins (then_at (at + 4) es (0 ∷ t ∷ c) a.0 a.1) (then_at (at + 11) es (t ∷ c) (top (data_places (t ∷ c)) ∷ a.0) a.1) a' b)
 
       one_found : (k : ℕ) (node : Node) → t ≡ k + 1 → k < count → slice_get p.tokens k ≡ Some node → Found code place p begins node c es w
@@ -399,11 +453,22 @@ module _ (laws : Laws) (p : SourceProgram) (code : List ℕ) (place : ℕ → �
           (passed execute_high execute_returns w fits starts (at + 11) (at + 4) 65534 es (t ∷ c) a.0 a.1 parts.branch (omega arith) (omega arith)) in
           let d = one_number execute_high execute_returns w fits starts 7 (at + 5) (at + 6) es (t ∷ c) (top (data_places (t ∷ c)) ∷ a.0) a.1 (omega arith) parts.seven (omega arith) (omega arith) in
           let address = 2 * sum_of t 7 % 65536 in
-          let f = some_words execute_high execute_returns w fits starts (Plus ∷ TwoStar ∷ ToR ∷ []) es (Cell (2 * sum_of t 7 % 65536) ∷ es) (7 ∷ t ∷ c) c (at + 6) (at + 10) d.0 d.1 refl refl (grind arith) parts.addresses fe (omega arith, fc) in
+          let f =
+          some_words execute_high execute_returns w fits starts (Plus ∷ TwoStar ∷ ToR ∷ []) es (Cell (2 * sum_of t 7 % 65536) ∷ es) (7 ∷ t ∷ c) c
+          (at + 6) (at + 10) d.0 d.1 refl refl (grind arith) parts.addresses fe (omega arith, fc) in
           let cell : 2 * sum_of t 7 % 65536 / 2 % 0x2000 ≡ 8 + k = omega (arith, is) in
-          let g = subst (λ q. Runs p.data_start execute_high execute_returns 1 (then_at (at + 10) (Cell (2 * sum_of t 7 % 65536) ∷ es) c f.0 f.1) (standing_at_depths code q c (places_below es) f.0 (Some (2 * sum_of t 7 % 65536) ∷ f.1) w)) cell
-          (runs_one laws p.data_start (length c) (suc (length (places_below es))) execute_high execute_returns (then_at (at + 10) (Cell (2 * sum_of t 7 % 65536) ∷ es) c f.0 f.1) _ (omega arith) (omega arith) (laws.returns p.data_start (2 * sum_of t 7 % 65536) (at + 10) code c (places_below es) f.0 f.1 w parts.returns)) in
-          let j = runs_one laws p.data_start (length c) (length (places_below es)) execute_high execute_returns (standing_at_depths code (8 + k) c (places_below es) f.0 (Some (2 * sum_of t 7 % 65536) ∷ f.1) w) (standing_at_depths code token.0 c (places_below es) f.0 (Some (2 * sum_of t 7 % 65536) ∷ f.1) w) (omega arith) (omega arith)
+          let g =
+          subst
+          (λ q.
+          Runs p.data_start execute_high execute_returns 1 (then_at (at + 10) (Cell (2 * sum_of t 7 % 65536) ∷ es) c f.0 f.1)
+          (standing_at_depths code q c (places_below es) f.0 (Some (2 * sum_of t 7 % 65536) ∷ f.1) w)) cell
+          (runs_one laws p.data_start (length c) (suc (length (places_below es))) execute_high execute_returns
+          (then_at (at + 10) (Cell (2 * sum_of t 7 % 65536) ∷ es) c f.0 f.1) _ (omega arith) (omega arith)
+          (laws.returns p.data_start (2 * sum_of t 7 % 65536) (at + 10) code c (places_below es) f.0 f.1 w parts.returns)) in
+          let j =
+          runs_one laws p.data_start (length c) (length (places_below es)) execute_high execute_returns
+          (standing_at_depths code (8 + k) c (places_below es) f.0 (Some (2 * sum_of t 7 % 65536) ∷ f.1) w)
+          (standing_at_depths code token.0 c (places_below es) f.0 (Some (2 * sum_of t 7 % 65536) ∷ f.1) w) (omega arith) (omega arith)
           (laws.jumps p.data_start token.0 (8 + k) code c (places_below es) f.0 (Some (2 * sum_of t 7 % 65536) ∷ f.1) w token.1) in
           let at5 = then_at (at + 5) es (t ∷ c) (top (data_places (t ∷ c)) ∷ a.0) a.1 in
           let at6 = then_at (at + 6) es (7 ∷ t ∷ c) d.0 d.1 in
@@ -415,7 +480,10 @@ module _ (laws : Laws) (p : SourceProgram) (code : List ℕ) (place : ℕ → �
             at = token.0;
             above = f.0;
             above' = Some (2 * sum_of t 7 % 65536) ∷ f.1;
-            runs = runs_then laws p.data_start execute_high execute_returns 11 1 begins at_jump there (runs_then laws p.data_start execute_high execute_returns 10 1 begins at10 at_jump (runs_then laws p.data_start execute_high execute_returns 6 4 begins at6 at10
+            runs =
+                runs_then laws p.data_start execute_high execute_returns 11 1 begins at_jump there
+                (runs_then laws p.data_start execute_high execute_returns 10 1 begins at10 at_jump
+                (runs_then laws p.data_start execute_high execute_returns 6 4 begins at6 at10
                 (runs_then laws p.data_start execute_high execute_returns 5 1 begins at5 at6 (runs_then laws p.data_start execute_high execute_returns 4 1 begins (then_at (at + 4) es (65535 ∷ t ∷ c) a.0 a.1) at5 a' b) d.2) f.2) g) j;
             stands = token.2;
             some = omega arith;

@@ -86,7 +86,9 @@ module _ (laws : Laws) (p : SourceProgram) (code : List ℕ) (place : ℕ → �
     pub back_is : execute_back p f c ≡ address_height (ends_body then_work) + back_of (first_work after.work)
     -- what is left of frames that made their last call
     pub due : unfinished (record { work = then_work; entries = es } ∷ after.callers) ≤ now
-    pub item : (high' return_high' : ℕ) → length after.cells + peak_of after.callers (first_work after.work) ≤ high' → length (return_places es base) + address_height (ends_body then_work) + back_of (first_work after.work) ≤ return_high' → DepthFits (first_work after.work) after.cells →
+    pub item : (high' return_high' : ℕ) → length after.cells + peak_of after.callers (first_work after.work) ≤ high' →
+        length (return_places es base) + address_height (ends_body then_work) + back_of (first_work after.work) ≤ return_high' →
+        DepthFits (first_work after.work) after.cells →
         Follows laws p code place size there (step_price after + 1) (p.source_tokens + 1 + unfinished (record { work = then_work; entries = es } ∷ after.callers)) high' return_high' (step p after)
 
   module _ (high return_high : ℕ) (fs : List Frame) (world : World) (fits : IsWorld world) (starts : world.data_start ≡ p.data_start) where
@@ -126,7 +128,9 @@ module _ (laws : Laws) (p : SourceProgram) (code : List ℕ) (place : ℕ → �
             }
 
         -- a return to what follows EXECUTE
-        back_to_work : (q : ℕ) (c' : List ℕ) (up up' : List (Option ℕ)) (base'' : List (Option ℕ)) (world' : World) (fits' : IsWorld world') (starts' : world'.data_start ≡ p.data_start) → Returns code place p q → Frames code place p over base'' → AreCells c' → length c' ≤ high → length base'' ≤ return_high →
+        back_to_work : (q : ℕ) (c' : List ℕ) (up up' : List (Option ℕ)) (base'' : List (Option ℕ)) (world' : World) (fits' : IsWorld world')
+            (starts' : world'.data_start ≡ p.data_start) → Returns code place p q → Frames code place p over base'' → AreCells c' → length c' ≤ high →
+            length base'' ≤ return_high →
             Follows laws p code place size (standing_at_depths code q c' base'' up up' world') 1 then_now high return_high (Goes (record { work = w; entries = es; callers = fs; cells = c'; world = world' }))
         back_to_work q c' up up' base'' world' fits' starts' returns frames'' fc' room back =
             body_ends laws p code place size all high return_high q then_now world' fits' starts' up up' over [] [] c' base'' frames'' owed returns fc' (omega arith) back
@@ -160,7 +164,9 @@ module _ (laws : Laws) (p : SourceProgram) (code : List ℕ) (place : ℕ → �
             let m = f.meets in
             let cheap = f.cheap in
             let same : length f.base ≡ length base' = callers_fit code place p over f.base m.frames ∙ sym (callers_fit code place p over base' frames') in
-            follows_after laws p code place size (At at c) (standing_at_depths code f.to c' f.base f.data_above f.return_above world') f.count 1 (word_price word c world + 1) then_now high return_high (Goes (record { work = w; entries = es; callers = fs; cells = c'; world = world' })) (omega arith) f.runs
+            follows_after laws p code place size (At at c) (standing_at_depths code f.to c' f.base f.data_above f.return_above world') f.count 1
+            (word_price word c world + 1) then_now high return_high (Goes (record { work = w; entries = es; callers = fs; cells = c'; world = world' }))
+            (omega arith) f.runs
             (back_to_work f.to c' f.data_above f.return_above f.base world' m.world m.starts m.stands m.frames m.cells few (omega arith))
         word_returns word at (Stops end world') e few back f =
             follows_after laws p code place size (At at c) (At at c) 0 (word_price word c world) (word_price word c world + 1) then_now high return_high (Ends end world') (omega arith) (record { makes = refl; bounds = tt }) f
@@ -172,7 +178,8 @@ module _ (laws : Laws) (p : SourceProgram) (code : List ℕ) (place : ℕ → �
         plain_few word (Gives c' world') e plain may =
             let low = exits_low word in
             exit_few (entry_of word).exit (entry_of word).peak (length c) (length c') low
-            (laws.word_depths p word alone (record { work = []; entries = []; callers = over; cells = c'; world = world' }) plain (token_step p word c [] alone may ∙ ap (λ r. on_cells r (record { work = []; entries = []; callers = over; cells = c; world = world })) e))
+            (laws.word_depths p word alone (record { work = []; entries = []; callers = over; cells = c'; world = world' }) plain
+            (token_step p word c [] alone may ∙ ap (λ r. on_cells r (record { work = []; entries = []; callers = over; cells = c; world = world })) e))
         plain_few word (Stops end world') e plain may = tt
 
         few_within : (n : ℕ) (o : Reply (List ℕ)) → n ≤ high → FewLeft n o → FewLeft high o
@@ -194,7 +201,9 @@ module _ (laws : Laws) (p : SourceProgram) (code : List ℕ) (place : ℕ → �
           within_routine : length (places_below item_entries) + back - 1 ≤ return_high
           within_routine = omega (arith, ap length same_item_places)
 
-          routine_returns : (c' : List ℕ) (world' : World) → Returned p.data_start code (standing_at_depths code at c (places_below item_entries) above above' world) price (length c + peak) (length (places_below item_entries) + back - 1) item_entries c' world' →
+          routine_returns : (c' : List ℕ) (world' : World) →
+              Returned p.data_start code (standing_at_depths code at c (places_below item_entries) above above' world) price (length c + peak)
+              (length (places_below item_entries) + back - 1) item_entries c' world' →
               Follows laws p code place size (At at c) (price + 1) then_now high return_high (Goes (record { work = w; entries = es; callers = fs; cells = c'; world = world' }))
           routine_returns c' world' r =
               let cheap = r.cheap in
@@ -202,11 +211,19 @@ module _ (laws : Laws) (p : SourceProgram) (code : List ℕ) (place : ℕ → �
               let runs = r.runs in
               let inside : Runs p.data_start high return_high r.count (At at c) (standing_at_depths code r.to c' base' r.above r.above' world') =
               subst (λ ps. Runs p.data_start high return_high r.count (standing_at_depths code at c ps above above' world) (standing_at_depths code r.to c' ps r.above r.above' world')) same_item_places
-              (record { makes = runs.makes; bounds = wider laws p.data_start 0 (length c + peak) 0 (length (places_below item_entries) + back - 1) high return_high r.count (standing_at_depths code at c (places_below item_entries) above above' world) room within_routine runs.bounds }) in
-              follows_after laws p code place size (At at c) (standing_at_depths code r.to c' base' r.above r.above' world') r.count 1 (price + 1) then_now high return_high (Goes (record { work = w; entries = es; callers = fs; cells = c'; world = world' })) (omega arith) inside
+              (record {
+                makes = runs.makes;
+                bounds =
+                    wider laws p.data_start 0 (length c + peak) 0 (length (places_below item_entries) + back - 1) high return_high r.count
+                    (standing_at_depths code at c (places_below item_entries) above above' world) room within_routine runs.bounds;
+              }) in
+              follows_after laws p code place size (At at c) (standing_at_depths code r.to c' base' r.above r.above' world') r.count 1 (price + 1) then_now high
+              return_high (Goes (record { work = w; entries = es; callers = fs; cells = c'; world = world' })) (omega arith) inside
               (back_to_work r.to c' r.above r.above' base' world' r.world_is r.starts r.returns frames' r.cells (omega arith) (omega arith))
 
-          routine_stops : (end : End) (world' : World) → Stopped p.data_start code (standing_at_depths code at c (places_below item_entries) above above' world) price (length c + peak) (length (places_below item_entries) + back - 1) end world' →
+          routine_stops : (end : End) (world' : World) →
+              Stopped p.data_start code (standing_at_depths code at c (places_below item_entries) above above' world) price (length c + peak)
+              (length (places_below item_entries) + back - 1) end world' →
               Halts laws p code place size (At at c) (price + 1) high return_high end world'
           routine_stops end world' r =
               let cheap = r.cheap in
@@ -217,12 +234,20 @@ module _ (laws : Laws) (p : SourceProgram) (code : List ℕ) (place : ℕ → �
                 stop = r.stop;
                 stop_is = r.stop_is;
                 ended = subst (λ u. EndedIn (run open_storage p.data_start r.count u) code r.stop world') same r.ended;
-                bounds = subst (BeforeEach (StaysWithin 0 high 0 return_high) p.data_start r.count) same (wider laws p.data_start 0 (length c + peak) 0 (length (places_below item_entries) + back - 1) high return_high r.count v room within_routine r.bounds);
-                at_end = subst (λ u. StaysWithin 0 high 0 return_high (run open_storage p.data_start r.count u)) same (narrower laws p.data_start 0 (length c + peak) 0 (length (places_below item_entries) + back - 1) high return_high (run open_storage p.data_start r.count v) room within_routine r.at_end);
+                bounds =
+                    subst (BeforeEach (StaysWithin 0 high 0 return_high) p.data_start r.count) same
+                    (wider laws p.data_start 0 (length c + peak) 0 (length (places_below item_entries) + back - 1) high return_high r.count v room
+                    within_routine r.bounds);
+                at_end =
+                    subst (λ u. StaysWithin 0 high 0 return_high (run open_storage p.data_start r.count u)) same
+                    (narrower laws p.data_start 0 (length c + peak) 0 (length (places_below item_entries) + back - 1) high return_high
+                    (run open_storage p.data_start r.count v) room within_routine r.at_end);
                 cheap = omega arith;
               }
 
-          routine_answers : (o : Reply (List ℕ)) → Answers p.data_start code (standing_at_depths code at c (places_below item_entries) above above' world) price (length c + peak) (length (places_below item_entries) + back - 1) item_entries o →
+          routine_answers : (o : Reply (List ℕ)) →
+              Answers p.data_start code (standing_at_depths code at c (places_below item_entries) above above' world) price (length c + peak)
+              (length (places_below item_entries) + back - 1) item_entries o →
               Follows laws p code place size (At at c) (price + 1) then_now high return_high (on_cells o (here w es c))
           routine_answers (Gives c' world') r = routine_returns c' world' r
           routine_answers (Stops Underflow world') r = tt
@@ -231,17 +256,22 @@ module _ (laws : Laws) (p : SourceProgram) (code : List ℕ) (place : ℕ → �
           routine_answers (Stops InputEnded world') r = routine_stops InputEnded world' r
           routine_answers (Stops (Outside address) world') r = routine_stops (Outside address) world' r
 
-        word_in_hand : (word : Word) (at : ℕ) → may_be_token (Plain word) ≡ true → (((next : ℕ) × (stands_plain word ≡ true) × StandIn code at (cells_from p.data_start word) next × Returns code place p next) ⊎ IsRoutine p.data_start code word at) → DepthFits (IsWord word w) c →
+        word_in_hand : (word : Word) (at : ℕ) → may_be_token (Plain word) ≡ true →
+            (((next : ℕ) × (stands_plain word ≡ true) × StandIn code at (cells_from p.data_start word) next × Returns code place p next)
+            ⊎ IsRoutine p.data_start code word at) → DepthFits (IsWord word w) c →
             length c + (entry_of word).peak ≤ high → length base' + (entry_of word).back ≤ return_high →
             Follows laws p code place size (At at c) (word_price word c world + 1) then_now high return_high (on_cells (meaning word c world) (here w es c))
         word_in_hand word at may (inl h) fit room back =
             word_returns word at (meaning word c world) refl (few_within (length c + (entry_of word).peak) (meaning word c world) room (plain_few word (meaning word c world) refl h.1 may)) (omega arith)
             (subst (Follows laws p code place size (At at c) (word_price word c world) then_now high return_high) (token_step p word c [] alone may)
-            (word_follows laws p code place size high return_high at then_now None over world fits starts base' above above' frames' owed word h.0 [] [] c (word_step p word c [] alone) refl h.1 (applies word w c fit) h.2 h.3 refl (omega arith) tt fc room (omega arith)))
+            (word_follows laws p code place size high return_high at then_now None over world fits starts base' above above' frames' owed word h.0 [] [] c
+            (word_step p word c [] alone) refl h.1 (applies word w c fit) h.2 h.3 refl (omega arith) tt fc room (omega arith)))
         word_in_hand word at may (inr routine) fit room back =
             let dear = routine_cheap word c world in
-            follows_after laws p code place size (At at c) (At at c) 0 (routine_price word c world + 1) (word_price word c world + 1) then_now high return_high (on_cells (meaning word c world) (here w es c)) (omega arith) (record { makes = refl; bounds = tt })
-            (routine_answers at (routine_price word c world) (entry_of word).peak (entry_of word).back (routine_back word routine.number routine.is_library) room back (meaning word c world) (routine.does item_entries c above above' world item_entries_own fc fits starts))
+            follows_after laws p code place size (At at c) (At at c) 0 (routine_price word c world + 1) (word_price word c world + 1) then_now high return_high
+            (on_cells (meaning word c world) (here w es c)) (omega arith) (record { makes = refl; bounds = tt })
+            (routine_answers at (routine_price word c world) (entry_of word).peak (entry_of word).back (routine_back word routine.number routine.is_library)
+            room back (meaning word c world) (routine.does item_entries c above above' world item_entries_own fc fits starts))
 
         item_in_hand : (node : Node) (at : ℕ) → TokenStands code place p node at → DepthFits (first_in node w) c → length c + peak_of fs (first_in node w) ≤ high → length base' + back_of (first_in node w) ≤ return_high →
             Follows laws p code place size (At at c) (first_price (first_in node w) c world + 1) then_now high return_high (act p (first_in node w) (here (Todo node ∷ w) es c))
@@ -266,7 +296,8 @@ module _ (laws : Laws) (p : SourceProgram) (code : List ℕ) (place : ℕ → �
         unfolding step
         item_follows node at h fit room back = item_in_hand node at h fit room back
 
-  module _ (high return_high pc now : ℕ) (out : Option ℕ) (fs : List Frame) (world : World) (fits : IsWorld world) (starts : world.data_start ≡ p.data_start) (base data_above return_above : List (Option ℕ)) (frames : Frames code place p fs base) (due : unfinished fs ≤ now) where
+  module _ (high return_high pc now : ℕ) (out : Option ℕ) (fs : List Frame) (world : World) (fits : IsWorld world) (starts : world.data_start ≡ p.data_start)
+      (base data_above return_above : List (Option ℕ)) (frames : Frames code place p fs base) (due : unfinished fs ≤ now) where
     abbrev state : List Work → List Entry → List ℕ → State
     state w es c = record { work = w; entries = es; callers = fs; cells = c; world = world }
 
@@ -274,8 +305,12 @@ module _ (laws : Laws) (p : SourceProgram) (code : List ℕ) (place : ℕ → �
     There es c = standing_as (state [] es c) code pc base data_above return_above
 
     -- one instruction leads into the code of EXECUTE, over the item's frame
-    module _ (at : ℕ) (w : List Work) (es : List Entry) (t : ℕ) (c : List ℕ) (executor : IsExecutor code place p at) (fc : AreCells (t ∷ c)) (base' : List (Option ℕ)) (frames' : Frames code place p (record { work = w; entries = es } ∷ fs) base') (left : unfinished (record { work = w; entries = es } ∷ fs) ≤ now)
-        (up' : List (Option ℕ)) (entered : Runs p.data_start high return_high 1 (There es (t ∷ c)) (standing_at_depths code at (t ∷ c) base' data_above up' world)) (height : length base' ≡ length (return_places es base) + address_height (ends_body w))
+    module _ (at : ℕ) (w : List Work) (es : List Entry) (t : ℕ) (c : List ℕ) (executor : IsExecutor code place p at) (fc : AreCells (t ∷ c))
+        (base' : List (Option ℕ)) (frames' : Frames code place p (record { work = w; entries = es } ∷ fs) base')
+        (left : unfinished (record { work = w; entries = es } ∷ fs) ≤ now)
+        (up' : List (Option ℕ))
+        (entered : Runs p.data_start high return_high 1 (There es (t ∷ c)) (standing_at_depths code at (t ∷ c) base' data_above up' world))
+        (height : length base' ≡ length (return_places es base) + address_height (ends_body w))
         (room : length (t ∷ c) + 4 ≤ high) (back : length (return_places es base) + 3 ≤ return_high) where
       abbrev below : List Entry
       below = (flattened laws p code place size (record { work = w; entries = es } ∷ fs) base' frames').0
@@ -304,15 +339,21 @@ module _ (laws : Laws) (p : SourceProgram) (code : List ℕ) (place : ℕ → �
       fails_here none =
           let r = executor.fails t c below data_above up' world none below_are fc fits starts in
           let cheap = r.cheap in
-          let joined : run open_storage p.data_start (1 + r.count) (There es (t ∷ c)) ≡ run open_storage p.data_start r.count in_stub = laws.runs_join 1 r.count p.data_start (There es (t ∷ c)) ∙ ap (run open_storage p.data_start r.count) called_stub.makes in
+          let joined : run open_storage p.data_start (1 + r.count) (There es (t ∷ c)) ≡ run open_storage p.data_start r.count in_stub =
+          laws.runs_join 1 r.count p.data_start (There es (t ∷ c)) ∙ ap (run open_storage p.data_start r.count) called_stub.makes in
           record {
             count = 1 + r.count;
             stop = r.stop;
             stop_is = r.stop_is;
             ended = subst (λ u. EndedIn u code r.stop world) (sym joined) r.ended;
             bounds = laws.bounds_join 0 high 0 return_high 1 r.count p.data_start (There es (t ∷ c)) called_stub.bounds
-                (subst (BeforeEach (StaysWithin 0 high 0 return_high) p.data_start r.count) (sym called_stub.makes) (wider laws p.data_start 0 (length c + 3) 0 (length (places_below below) + 1) high return_high r.count in_stub (omega arith) within r.bounds));
-            at_end = subst (StaysWithin 0 high 0 return_high) (sym joined) (narrower laws p.data_start 0 (length c + 3) 0 (length (places_below below) + 1) high return_high (run open_storage p.data_start r.count in_stub) (omega arith) within r.at_end);
+                (subst (BeforeEach (StaysWithin 0 high 0 return_high) p.data_start r.count) (sym called_stub.makes)
+                (wider laws p.data_start 0 (length c + 3) 0 (length (places_below below) + 1) high return_high r.count in_stub (omega arith) within
+                r.bounds));
+            at_end =
+                subst (StaysWithin 0 high 0 return_high) (sym joined)
+                (narrower laws p.data_start 0 (length c + 3) 0 (length (places_below below) + 1) high return_high
+                (run open_storage p.data_start r.count in_stub) (omega arith) within r.at_end);
             cheap = omega arith;
           }
 
@@ -350,7 +391,9 @@ module _ (laws : Laws) (p : SourceProgram) (code : List ℕ) (place : ℕ → �
       one_executes None e = inl (fails_here e)
       one_executes (Some node) e = inr (finds_here node e)
 
-    pub execute_follows : (tail : Bool) (at : ℕ) (w : List Work) (es : List Entry) (c : List ℕ) → ends_body w ≡ tail → CallStands code place p tail pc at (Stands code place p out (following pc) w) → IsExecutor code place p at → Loops code place p out w → 1 + ahead w + unfinished fs ≤ now → ahead w ≤ p.source_tokens →
+    pub execute_follows : (tail : Bool) (at : ℕ) (w : List Work) (es : List Entry) (c : List ℕ) → ends_body w ≡ tail →
+        CallStands code place p tail pc at (Stands code place p out (following pc) w) → IsExecutor code place p at → Loops code place p out w →
+        1 + ahead w + unfinished fs ≤ now → ahead w ≤ p.source_tokens →
         AreEntries es → AreCells c → length c + 4 ≤ high → length (return_places es base) + 3 ≤ return_high →
         Follows laws p code place size (There es c) 30 now high return_high (word_step p Execute c es (state w es c)) ⊎ Executes (There es c) 30 now high return_high (IsWord Execute w) c es base (word_step p Execute c es (state w es c))
     execute_follows tail at w es [] e holds executor l n few fe fc room back = inl tt
@@ -361,13 +404,19 @@ module _ (laws : Laws) (p : SourceProgram) (code : List ℕ) (place : ℕ → �
         one_executes at w es t c executor fc (return_places es base)
         (base, subst (λ tail. Called code place p tail (record { work = w; entries = es }) (return_places es base) base) (sym e) (record { out = out; returns = refl; loops = l; few = few; entries = fe }), frames)
         (omega (arith, left)) return_above
-        (runs_one laws p.data_start (suc (length c)) (length (return_places es base)) high return_high (There es (t ∷ c)) _ (omega arith) (omega arith) (laws.jumps p.data_start at pc code (t ∷ c) (return_places es base) data_above return_above world holds))
+        (runs_one laws p.data_start (suc (length c)) (length (return_places es base)) high return_high (There es (t ∷ c)) _ (omega arith) (omega arith)
+        (laws.jumps p.data_start at pc code (t ∷ c) (return_places es base) data_above return_above world holds))
         (omega (arith, kept)) room back (token_of p t) refl
     execute_follows false at w es (t ∷ c) e holds executor l n few fe fc room back =
         let left : steps_left (ends_body w) w ≡ 0 = ap (λ tail. steps_left tail w) e in
         let kept : address_height (ends_body w) ≡ 1 = ap address_height e in
-        one_executes at w es t c executor fc (Some (2 * following pc) ∷ return_places es base)
-        (base, subst (λ tail. Called code place p tail (record { work = w; entries = es }) (Some (2 * following pc) ∷ return_places es base) base) (sym e) (record { out = out; pc = pc; returns = refl; stands = holds.1; loops = l; entries = fe }), frames)
+        one_executes at w es t c executor fc (Some (2 * following pc) ∷ return_places es base) (
+          base,
+          subst (λ tail. Called code place p tail (record { work = w; entries = es }) (Some (2 * following pc) ∷ return_places es base) base) (sym e)
+              (record { out = out; pc = pc; returns = refl; stands = holds.1; loops = l; entries = fe }),
+          frames,
+        )
         (omega (arith, left)) (rest return_above)
-        (runs_one laws p.data_start (suc (length c)) (length (return_places es base)) high return_high (There es (t ∷ c)) _ (omega arith) (omega arith) (laws.calls p.data_start at pc code (t ∷ c) (return_places es base) data_above return_above world holds.0))
+        (runs_one laws p.data_start (suc (length c)) (length (return_places es base)) high return_high (There es (t ∷ c)) _ (omega arith) (omega arith)
+        (laws.calls p.data_start at pc code (t ∷ c) (return_places es base) data_above return_above world holds.0))
         (omega (arith, kept)) room back (token_of p t) refl

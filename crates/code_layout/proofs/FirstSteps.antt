@@ -9,7 +9,8 @@ use Rattle.forth_program.specs.Tree.{Nodes, Plain, Empty, Then}
 use Rattle.forth_program.specs.State.{Entry, Work, TrueEnd, UntilTest, WhileTest, Repeat, BeginAgain, Frame, World, State}
 use Rattle.forth_program.specs.Tail.{ends_body}
 use Rattle.forth_program.specs.Program.{SourceProgram}
-use Rattle.forth_program.specs.Step.{First, BodyEnd, IsLiteral, IsWord, IsCall, IsChild, IsText, IsIf, IsTrueEnd, IsUntil, IsWhile, IsRepeat, IsAgain, IsDo, IsQDo, IsTurn, IsOf, IsEndOf, IsEndCase, IsLeave, IsExit, before, word_step, act, first_work, step}
+use Rattle.forth_program.specs.Step.{First, BodyEnd, IsLiteral, IsWord, IsCall, IsChild, IsText, IsIf, IsTrueEnd, IsUntil, IsWhile, IsRepeat, IsAgain, IsDo}
+use Rattle.forth_program.specs.Step.{IsQDo, IsTurn, IsOf, IsEndOf, IsEndCase, IsLeave, IsExit, before, word_step, act, first_work, step}
 use Rattle.forth_program.specs.Price.{word_price, first_price, step_price}
 use Rattle.forth_program.specs.Cells.{AreCells, AreEntries, IsWorld}
 use Rattle.word_laws.specs.Control.{HoldsInstruction}
@@ -27,11 +28,14 @@ use Rattle.code_layout.proofs.LoopSteps.{do_follows, turn_follows, leave_follows
 use Rattle.code_layout.proofs.CaseSteps.{q_do_follows, of_follows, end_case_follows}
 
 module _ (laws : Laws) (p : SourceProgram) (code : List ℕ) (place : ℕ → ℕ) (size : length code ≡ p.data_start / 2) (all : AllStand laws p code place size) where
-  module _ (high return_high pc now : ℕ) (out : Option ℕ) (fs : List Frame) (world : World) (fits : IsWorld world) (starts : world.data_start ≡ p.data_start) (base data_above return_above : List (Option ℕ)) (frames : Frames code place p fs base) (due : unfinished fs ≤ now) where
+  module _ (high return_high pc now : ℕ) (out : Option ℕ) (fs : List Frame) (world : World) (fits : IsWorld world) (starts : world.data_start ≡ p.data_start)
+      (base data_above return_above : List (Option ℕ)) (frames : Frames code place p fs base) (due : unfinished fs ≤ now) where
     abbrev here : List Work → List Entry → List ℕ → State
     here w es c = record { work = w; entries = es; callers = fs; cells = c; world = world }
 
-    if_follows : (first second : Nodes) (after w : List Work) (es : List Entry) (c : List ℕ) → Stands code place p out pc (back code place p (IsIf first second after)) → Loops code place p out after → AreEntries es → AreCells c → length c ≤ high → length (return_places es base) ≤ return_high →
+    if_follows : (first second : Nodes) (after w : List Work) (es : List Entry) (c : List ℕ) →
+        Stands code place p out pc (back code place p (IsIf first second after)) → Loops code place p out after → AreEntries es → AreCells c → length c ≤ high →
+        length (return_places es base) ≤ return_high →
         Follows laws p code place size (standing_as (here [] es c) code pc base data_above return_above) 1 now high return_high (act p (IsIf first second after) (here w es c))
     if_follows first Empty after w es c h l fe fc room back =
         flag_follows laws p code place size high return_high pc now out fs world fits starts base data_above return_above frames due h.0.0 after (before first after) w es c h.0.1
@@ -39,7 +43,9 @@ module _ (laws : Laws) (p : SourceProgram) (code : List ℕ) (place : ℕ → �
     if_follows first (Then node rest) after w es c h l fe fc room back =
         flag_follows laws p code place size high return_high pc now out fs world fits starts base data_above return_above frames due h.0.0 (before (Then node rest) after) (before first (TrueEnd ∷ after)) w es c h.0.1
         (stands_before code place p (Then node rest) out h.0.0 after (λ q. Stands code place p out q after) (λ q k. k) h.0.3 (omega (arith, h.1))) (loops_before code place p (Then node rest) out after l)
-        (stands_before code place p first out (following pc) (TrueEnd ∷ after) (λ e. (next : ℕ) × HoldsInstruction code e (Jump next) × Stands code place p out next after) (λ e k. (inl (k.0, k.1, k.2), omega (arith, h.1))) h.0.2 (omega (arith, h.1)))
+        (stands_before code place p first out (following pc) (TrueEnd ∷ after)
+        (λ e. (next : ℕ) × HoldsInstruction code e (Jump next) × Stands code place p out next after) (λ e k. (inl (k.0, k.1, k.2), omega (arith, h.1)))
+        h.0.2 (omega (arith, h.1)))
         (loops_before code place p first out (TrueEnd ∷ after) l) fe fc room back
 
     -- what follows a first work: the machine follows, or it has come to the code of a token
@@ -49,19 +55,27 @@ module _ (laws : Laws) (p : SourceProgram) (code : List ℕ) (place : ℕ → �
         ⊎ Executes laws p code place size all (standing_as (here [] es c) code pc base data_above return_above) (first_price f c world) now high return_high f c es base (act p f (here w es c))
 
     -- a word by its own cells, and a library word and EXECUTE by a call
-    word_steps : (word : Word) (after w : List Work) (es : List Entry) (c : List ℕ) → Placed code place p out pc (ends_body after) (Plain word) (λ q. Stands code place p out q after) → Loops code place p out after → 1 + ahead after + unfinished fs ≤ now → ahead after ≤ p.source_tokens → AreEntries es → AreCells c → DepthFits (IsWord word after) c →
+    word_steps : (word : Word) (after w : List Work) (es : List Entry) (c : List ℕ) →
+        Placed code place p out pc (ends_body after) (Plain word) (λ q. Stands code place p out q after) → Loops code place p out after →
+        1 + ahead after + unfinished fs ≤ now → ahead after ≤ p.source_tokens → AreEntries es → AreCells c → DepthFits (IsWord word after) c →
         length c + (entry_of word).peak ≤ high → length (return_places es base) + (entry_of word).back ≤ return_high → Stepped (IsWord word after) w es c
     word_steps word after w es c (inl (inl h)) l n few fe fc fit room back =
-        inl (word_follows laws p code place size high return_high pc now out fs world fits starts base data_above return_above frames due word h.0 after es c (word_step p word c es (here after es c)) refl h.1 (applies word after c fit) h.2 h.3 l n fe fc room back)
+        inl
+        (word_follows laws p code place size high return_high pc now out fs world fits starts base data_above return_above frames due word h.0 after es c
+        (word_step p word c es (here after es c)) refl h.1 (applies word after c fit) h.2 h.3 l n fe fc room back)
     word_steps word after w es c (inl (inr h)) l n few fe fc fit room back =
         let routine = h.2 in
-        inl (subst (Follows laws p code place size (standing_as (here [] es c) code pc base data_above return_above) (word_price word c world) now high return_high) (sym (library_step p word routine.number c es (here after es c) routine.is_library))
+        inl
+        (subst
+        (Follows laws p code place size (standing_as (here [] es c) code pc base data_above return_above) (word_price word c world) now high return_high)
+        (sym (library_step p word routine.number c es (here after es c) routine.is_library))
         (library_follows laws p code place size high return_high pc now out fs world fits starts base data_above return_above frames due (ends_body after) word h.0 after es c refl h.1 h.2 l n few fe fc room back))
     word_steps word after w es c (inr h) l n few fe fc fit room back =
         subst (λ x. length c + (entry_of x).peak ≤ high → length (return_places es base) + (entry_of x).back ≤ return_high → Stepped (IsWord x after) w es c) (sym h.0)
         (λ room back. execute_follows laws p code place size all high return_high pc now out fs world fits starts base data_above return_above frames due (ends_body after) h.1 after es c refl h.2 h.3 l n few fe fc room back) room back
 
-    first_follows : (f : First) (w : List Work) (es : List Entry) (c : List ℕ) → Stands code place p out pc (back code place p f) → Loops code place p out (back code place p f) → ahead (back code place p f) + unfinished fs ≤ now → AreEntries es → AreCells c → DepthFits f c →
+    first_follows : (f : First) (w : List Work) (es : List Entry) (c : List ℕ) → Stands code place p out pc (back code place p f) →
+        Loops code place p out (back code place p f) → ahead (back code place p f) + unfinished fs ≤ now → AreEntries es → AreCells c → DepthFits f c →
         length c + peak_of fs f ≤ high → length (return_places es base) + back_of f ≤ return_high →
         Stepped f w es c
     first_follows BodyEnd w es c h l n fe fc fit room back = inl (body_ends laws p code place size all high return_high pc now world fits starts data_above return_above fs w es c base frames due h fc room (omega arith))
@@ -70,11 +84,17 @@ module _ (laws : Laws) (p : SourceProgram) (code : List ℕ) (place : ℕ → �
         inl (number_follows laws p code place size high return_high pc now out fs world fits starts base data_above return_above frames due value h.0.0 after es c h.0.1 h.0.2 h.0.3 l fe fc room (omega arith))
     first_follows (IsWord word after) w es c h l n fe fc fit room back = word_steps word after w es c h.0 l n (omega (arith, h.1)) fe fc fit room back
     first_follows (IsCall d after) w es c h l n fe fc fit room back =
-        inl (call_follows laws p code place size high return_high pc now out fs world fits starts base data_above return_above frames due all (ends_body after) d after es c refl h.0.0 h.0.1 l n (omega (arith, h.1)) fe fc (omega arith) (omega arith))
+        inl
+        (call_follows laws p code place size high return_high pc now out fs world fits starts base data_above return_above frames due all (ends_body after)
+        d after es c refl h.0.0 h.0.1 l n (omega (arith, h.1)) fe fc (omega arith) (omega arith))
     first_follows (IsChild d address after) w es c h l n fe fc fit room back =
-        inl (child_follows laws p code place size high return_high pc now out fs world fits starts base data_above return_above frames due all (ends_body after) d address h.0.0 after es c refl h.0.1 h.0.2 h.0.3 h.0.4 l n (omega (arith, h.1)) fe fc room (omega arith))
+        inl
+        (child_follows laws p code place size high return_high pc now out fs world fits starts base data_above return_above frames due all (ends_body after)
+        d address h.0.0 after es c refl h.0.1 h.0.2 h.0.3 h.0.4 l n (omega (arith, h.1)) fe fc room (omega arith))
     first_follows (IsText kind address characters after) w es c h l n fe fc fit room back =
-        inl (text_follows laws p code place size high return_high pc now out fs world fits starts base data_above return_above frames due (ends_body after) kind address characters h.0.0 h.0.1 after es c refl h.0.2 h.0.3 h.0.4 h.0.5 h.0.6 l n (omega (arith, h.1)) fe fc room back)
+        inl
+        (text_follows laws p code place size high return_high pc now out fs world fits starts base data_above return_above frames due (ends_body after) kind
+        address characters h.0.0 h.0.1 after es c refl h.0.2 h.0.3 h.0.4 h.0.5 h.0.6 l n (omega (arith, h.1)) fe fc room back)
     first_follows (IsIf first second after) w es c h l n fe fc fit room back = inl (if_follows first second after w es c h l fe fc (omega arith) (omega arith))
     first_follows (IsTrueEnd after) w es c h l n fe fc fit room back =
         inl (true_end_follows laws p code place size high return_high pc now out fs world fits starts base data_above return_above frames due after es c h l n fe fc (omega arith) (omega arith))
@@ -111,11 +131,14 @@ module _ (laws : Laws) (p : SourceProgram) (code : List ℕ) (place : ℕ → �
   abbrev pub StepFollows : State → OpenConfiguration → List (Option ℕ) → Type 0
   StepFollows s v base =
       Follows laws p code place size v (step_price s) (ahead s.work + unfinished s.callers) (length s.cells + peak_of s.callers (first_work s.work)) (length (return_places s.entries base) + back_of (first_work s.work)) (step p s)
-      ⊎ Executes laws p code place size all v (step_price s) (ahead s.work + unfinished s.callers) (length s.cells + peak_of s.callers (first_work s.work)) (length (return_places s.entries base) + back_of (first_work s.work)) (first_work s.work) s.cells s.entries base (step p s)
+      ⊎ Executes laws p code place size all v (step_price s) (ahead s.work + unfinished s.callers) (length s.cells + peak_of s.callers (first_work s.work))
+      (length (return_places s.entries base) + back_of (first_work s.work)) (first_work s.work) s.cells s.entries base (step p s)
 
-  pub step_follows : (out : Option ℕ) (pc : ℕ) (s : State) (base data_above return_above : List (Option ℕ)) → Meets code place p out pc s base → DepthFits (first_work s.work) s.cells → StepFollows s (standing_as s code pc base data_above return_above) base
+  pub step_follows : (out : Option ℕ) (pc : ℕ) (s : State) (base data_above return_above : List (Option ℕ)) → Meets code place p out pc s base →
+      DepthFits (first_work s.work) s.cells → StepFollows s (standing_as s code pc base data_above return_above) base
   unfolding step
   step_follows out pc s base data_above return_above m fit =
       let o = opens code place p out pc s.work m.stands m.loops in
-      first_follows (length s.cells + peak_of s.callers (first_work s.work)) (length (return_places s.entries base) + back_of (first_work s.work)) pc (ahead s.work + unfinished s.callers) o.out s.callers s.world m.world m.starts base data_above return_above m.frames (omega arith)
+      first_follows (length s.cells + peak_of s.callers (first_work s.work)) (length (return_places s.entries base) + back_of (first_work s.work)) pc
+      (ahead s.work + unfinished s.callers) o.out s.callers s.world m.world m.starts base data_above return_above m.frames (omega arith)
       (first_work s.work) s.work s.entries s.cells o.stands o.loops (omega (arith, o.fewer)) m.entries m.cells fit (omega arith) (omega arith)

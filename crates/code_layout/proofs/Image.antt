@@ -20,7 +20,9 @@ use Rattle.word_table.specs.declared.word.Word.{Word}
 use Rattle.word_table.specs.declared.word.Word.TheVariants.{TypeOut}
 use Rattle.word_laws.specs.Control.{HoldsInstruction, halt_cells}
 use Rattle.word_laws.specs.Standing.{standing_as, StandIn}
-use Rattle.code_layout.specs.Layout.{Routine, Definition, Library, Executing, Aborting, type_routine, return_cell, reaches_end, cell_if, size, body_size, nodes_cells, body_cells, bodies_cells, begins_at, bodies_size, execute_cells, abort_cells, tokens_cells, token_size, token_jumps, library_place, execute_place, abort_place, first_place, tokens_place, routine_place, laid_out}
+use Rattle.code_layout.specs.Layout.{Routine, Definition, Library, Executing, Aborting, type_routine, return_cell, reaches_end, cell_if, size, body_size}
+use Rattle.code_layout.specs.Layout.{nodes_cells, body_cells, bodies_cells, begins_at, bodies_size, execute_cells, abort_cells, tokens_cells, token_size}
+use Rattle.code_layout.specs.Layout.{token_jumps, library_place, execute_place, abort_place, first_place, tokens_place, routine_place, laid_out}
 use Rattle.code_layout.specs.Numbering.{library_number}
 use Rattle.forth_program.specs.SourceTokens.{tokens_of, all_tokens}
 use Rattle.code_layout.specs.Built.{is_laid_out, IsBuilt}
@@ -72,7 +74,9 @@ first_world_is p input starts space bytes =
       data_start = let most = starts.at_most in omega (arith, most);
       aligned = starts.is_even;
       room = filled_room room (cells_of_bytes p.first_space);
-      space = behind_small (cells_of_bytes p.first_space) (replicate ((0x4000 - p.data_start) / 2 - length (cells_of_bytes p.first_space)) 0) (small_cells p.first_space space) (zeros_small ((0x4000 - p.data_start) / 2 - length (cells_of_bytes p.first_space)));
+      space =
+          behind_small (cells_of_bytes p.first_space) (replicate ((0x4000 - p.data_start) / 2 - length (cells_of_bytes p.first_space)) 0)
+          (small_cells p.first_space space) (zeros_small ((0x4000 - p.data_start) / 2 - length (cells_of_bytes p.first_space)));
       input = bytes_at input bytes;
     }
 
@@ -112,7 +116,8 @@ module _ (code : List ℕ) (place : Routine → ℕ) where
         Stands code (λ d. place (Definition d)) p None at (before body [])
     body_stands at body b items leaves few =
         stands_before code (λ d. place (Definition d)) p body None at [] (Returns code (λ d. place (Definition d)) p) (λ q k. k)
-        (all_placed code place p executes words routine executor aborter low body true false None 0 at (Returns code (λ d. place (Definition d)) p) (items, leaves) (λ e. absurd (let f : false ≡ true = e in cc)) (omega arith) b.cells_stand b.low b.returns) (omega (arith, few))
+        (all_placed code place p executes words routine executor aborter low body true false None 0 at (Returns code (λ d. place (Definition d)) p)
+        (items, leaves) (λ e. absurd (let f : false ≡ true = e in cc)) (omega arith) b.cells_stand b.low b.returns) (omega (arith, few))
 
 -- what holds of all bodies holds of one
 pub test_of : (test : Nodes → Bool) (bodies : List Nodes) (d : ℕ) → list_all test bodies ≡ true → d < length bodies → test (slice_index_or bodies d Empty) ≡ true
@@ -221,12 +226,14 @@ module _ (laws : Laws) (library : List Nodes) (p : SourceProgram) (built : IsBui
   pub jumps_stand : StandIn (code_of library p) 8 jumps (library_place p) × StandIn (code_of library p) (library_place p) (of_library ++ (of_execute ++ (of_abort ++ (of_program ++ of_tokens)))) end
   jumps_stand =
       let h = short in
-      cut (code_of library p) 8 (length p.tokens) jumps (of_library ++ (of_execute ++ (of_abort ++ (of_program ++ of_tokens)))) end (jumps_length (routine_place library p) (tokens_place library p) p.tokens) (omega arith) image_stands.2.2.2.2.2.2.2.2
+      cut (code_of library p) 8 (length p.tokens) jumps (of_library ++ (of_execute ++ (of_abort ++ (of_program ++ of_tokens)))) end
+      (jumps_length (routine_place library p) (tokens_place library p) p.tokens) (omega arith) image_stands.2.2.2.2.2.2.2.2
 
   library_stands : StandIn (code_of library p) (library_place p) of_library (execute_place library p) × StandIn (code_of library p) (execute_place library p) (of_execute ++ (of_abort ++ (of_program ++ of_tokens))) end
   library_stands =
       let h = short in
-      cut (code_of library p) (library_place p) (bodies_size library) of_library (of_execute ++ (of_abort ++ (of_program ++ of_tokens))) end (bodies_size_is p.data_start (routine_place library p) (library_place p) library) (omega arith) jumps_stand.1
+      cut (code_of library p) (library_place p) (bodies_size library) of_library (of_execute ++ (of_abort ++ (of_program ++ of_tokens))) end
+      (bodies_size_is p.data_start (routine_place library p) (library_place p) library) (omega arith) jumps_stand.1
 
   pub execute_stands : StandIn (code_of library p) (execute_place library p) of_execute (abort_place library p) × StandIn (code_of library p) (abort_place library p) (of_abort ++ (of_program ++ of_tokens)) end
   execute_stands = let h = short in cut (code_of library p) (execute_place library p) 15 of_execute (of_abort ++ (of_program ++ of_tokens)) end refl (omega arith) library_stands.1
@@ -240,28 +247,43 @@ module _ (laws : Laws) (library : List Nodes) (p : SourceProgram) (built : IsBui
       cut (code_of library p) (first_place library p) (bodies_size p.bodies) of_program of_tokens end (bodies_size_is p.data_start (routine_place library p) (first_place library p) p.bodies) (omega arith) abort_stands.1
 
   pub library_code : (number : ℕ) → number < length library → BodyCode p.data_start (code_of library p) (routine_place library p) (routine_place library p (Library number)) (slice_index_or library number Empty)
-  library_code number lt = let few = short in codes p.data_start (code_of library p) (routine_place library p) (library_place p) (execute_place library p) library library_stands.0 (omega (arith, bodies_size_is p.data_start (routine_place library p) (library_place p) library)) number lt
+  library_code number lt =
+      let few =
+      short in
+      codes p.data_start (code_of library p) (routine_place library p) (library_place p) (execute_place library p) library library_stands.0
+      (omega (arith, bodies_size_is p.data_start (routine_place library p) (library_place p) library)) number lt
 
   pub program_code : (d : ℕ) → d < length p.bodies → BodyCode p.data_start (code_of library p) (routine_place library p) (definitions d) (slice_index_or p.bodies d Empty)
   program_code d lt =
       let few = short in
-      codes p.data_start (code_of library p) (routine_place library p) (first_place library p) (tokens_place library p) p.bodies program_stands.0 (omega (arith, bodies_size_is p.data_start (routine_place library p) (first_place library p) p.bodies)) d lt
+      codes p.data_start (code_of library p) (routine_place library p) (first_place library p) (tokens_place library p) p.bodies program_stands.0
+      (omega (arith, bodies_size_is p.data_start (routine_place library p) (first_place library p) p.bodies)) d lt
 
   -- the code of ABORT" does what it does, where TYPE stands
-  aborts : ((word : Word) (number : ℕ) → library_number word ≡ Some number → number < length library → IsRoutine p.data_start (code_of library p) word (routine_place library p (Library number))) → 34 < length library → IsAborter p.data_start (code_of library p) (routine_place library p Aborting)
+  aborts :
+      ((word : Word) (number : ℕ) → library_number word ≡ Some number → number < length library →
+      IsRoutine p.data_start (code_of library p) word (routine_place library p (Library number))) → 34 < length library →
+      IsAborter p.data_start (code_of library p) (routine_place library p Aborting)
   aborts routine some =
       let h = short in
       is_aborter laws p (code_of library p) definitions code_size (abort_place library p) (routine_place library p type_routine) (first_place library p) abort_stands.0 (omega arith) (low type_routine) (routine TypeOut 34 refl some)
 
   -- and that of EXECUTE, where each token's jump leads to its code
-  executes : ((word : Word) (number : ℕ) → library_number word ≡ Some number → number < length library → IsRoutine p.data_start (code_of library p) word (routine_place library p (Library number))) → IsExecutor (code_of library p) definitions p (routine_place library p Executing)
+  executes :
+      ((word : Word) (number : ℕ) → library_number word ≡ Some number → number < length library →
+      IsRoutine p.data_start (code_of library p) word (routine_place library p (Library number))) →
+      IsExecutor (code_of library p) definitions p (routine_place library p Executing)
   executes routine =
       let h = short in
       is_executor laws p (code_of library p) definitions code_size (execute_place library p) (length p.tokens) (abort_place library p) execute_stands.0 (omega arith) (omega arith) refl
-      (tokens_stand (code_of library p) (routine_place library p) p false (length library) routine (λ e. absurd (let f : false ≡ true = e in cc)) (λ e. absurd (let f : false ≡ true = e in cc)) low p.tokens 8 (tokens_place library p) (library_place p) end built.token_items jumps_stand.0 program_stands.1 (omega arith) (omega arith))
+      (tokens_stand (code_of library p) (routine_place library p) p false (length library) routine (λ e. absurd (let f : false ≡ true = e in cc))
+      (λ e. absurd (let f : false ≡ true = e in cc)) low p.tokens 8 (tokens_place library p) (library_place p) end built.token_items jumps_stand.0
+      program_stands.1 (omega arith) (omega arith))
 
   -- every definition stands, where the library's routines do
-  pub all_stand : ((word : Word) (number : ℕ) → library_number word ≡ Some number → number < length library → IsRoutine p.data_start (code_of library p) word (routine_place library p (Library number))) → AllStand laws p (code_of library p) definitions code_size
+  pub all_stand :
+      ((word : Word) (number : ℕ) → library_number word ≡ Some number → number < length library →
+      IsRoutine p.data_start (code_of library p) word (routine_place library p (Library number))) → AllStand laws p (code_of library p) definitions code_size
   all_stand routine = record {
     halt = halt_stands;
     bodies = λ d lt.

@@ -22,7 +22,12 @@ use Rattle.word_laws.specs.Numbers.{number_cells}
 use Rattle.word_laws.specs.Standing.{StandIn}
 use Rattle.word_laws.specs.Words.{stands_plain}
 use Rattle.code_layout.specs.Numbering.{library_number}
-use Rattle.code_layout.specs.Layout.{Routine, Definition, Library, Executing, Aborting, routine_of, numbered, word_falls_through, text_falls_through, word_size, text_size, word_cells, text_cells, word_token_cells, word_token_size, word_token_place, token_cells, token_size, tokens_cells, token_place, token_jumps, jump_to, branch_to, call_to, call_cell, return_cell, do_cells, loop_cells, plus_loop_cells, out_cells, turn_cells, turn_size, q_do_cells, of_cells, end_case_cells, falls_through, reaches_end, cell_if, size_if, else_size, node_size, size, arms_size, body_size, else_place, while_place, out_place, arm_place, others_place, else_cells, loop_code, arm_code, node_cells, nodes_cells, arms_cells, body_cells}
+use Rattle.code_layout.specs.Layout.{Routine, Definition, Library, Executing, Aborting, routine_of, numbered, word_falls_through, text_falls_through, word_size}
+use Rattle.code_layout.specs.Layout.{text_size, word_cells, text_cells, word_token_cells, word_token_size, word_token_place, token_cells, token_size}
+use Rattle.code_layout.specs.Layout.{tokens_cells, token_place, token_jumps, jump_to, branch_to, call_to, call_cell, return_cell, do_cells, loop_cells}
+use Rattle.code_layout.specs.Layout.{plus_loop_cells, out_cells, turn_cells, turn_size, q_do_cells, of_cells, end_case_cells, falls_through, reaches_end}
+use Rattle.code_layout.specs.Layout.{cell_if, size_if, else_size, node_size, size, arms_size, body_size, else_place, while_place, out_place, arm_place}
+use Rattle.code_layout.specs.Layout.{others_place, else_cells, loop_code, arm_code, node_cells, nodes_cells, arms_cells, body_cells}
 use Rattle.code_layout.specs.Built.{word_is_laid_out, text_is_laid_out, is_laid_out, token_is_laid_out}
 use Rattle.code_layout.proofs.Machine.{both}
 use Rattle.code_layout.proofs.Routines.{IsRoutine, IsAborter}
@@ -91,7 +96,14 @@ pub arm_size_is : (at : ℕ) (tail : Bool) (end_at : ℕ) (tests body : Nodes) (
     length (arm_code at tail end_at tests body tests_cells body_cells) ≡ size false true tests + 4 + size tail true body + size_if (reaches_end tail true body)
 arm_size_is at tail end_at tests body tests_cells body_cells e f =
     let jump = cell_if (reaches_end tail true body) (jump_to end_at) in
-    omega (arith, length-append tests_cells (of_cells (others_place at tail tests body) ++ (body_cells ++ cell_if (reaches_end tail true body) (jump_to end_at))), length-append body_cells (cell_if (reaches_end tail true body) (jump_to end_at)), if_size_is (reaches_end tail true body) (jump_to end_at), e, f)
+    omega (
+      arith,
+      length-append tests_cells (of_cells (others_place at tail tests body) ++ (body_cells ++ cell_if (reaches_end tail true body) (jump_to end_at))),
+      length-append body_cells (cell_if (reaches_end tail true body) (jump_to end_at)),
+      if_size_is (reaches_end tail true body) (jump_to end_at),
+      e,
+      f,
+    )
 
 mutual
   pub node_size_is : (node : Node) (data_start : ℕ) (place : Routine → ℕ) (out_at at : ℕ) (tail reached : Bool) → length (node_cells data_start place out_at at tail reached node) ≡ node_size tail reached node
@@ -105,12 +117,32 @@ mutual
       e
   node_size_is (If first second) data_start place out_at at tail reached =
       let other_at = else_place at tail first second in
-      omega (arith, length-append (nodes_cells data_start place out_at (at + 1) tail true first) (else_cells tail first second (else_place at tail first second + size tail true second) ++ nodes_cells data_start place out_at (else_place at tail first second) tail true second), length-append (else_cells tail first second (else_place at tail first second + size tail true second)) (nodes_cells data_start place out_at (else_place at tail first second) tail true second), size_is first data_start place out_at (at + 1) tail true, else_size_is tail first second (else_place at tail first second + size tail true second), size_is second data_start place out_at (else_place at tail first second) tail true)
+      omega (
+        arith,
+        length-append (nodes_cells data_start place out_at (at + 1) tail true first)
+            (else_cells tail first second (else_place at tail first second + size tail true second)
+            ++ nodes_cells data_start place out_at (else_place at tail first second) tail true second),
+        length-append (else_cells tail first second (else_place at tail first second + size tail true second))
+            (nodes_cells data_start place out_at (else_place at tail first second) tail true second),
+        size_is first data_start place out_at (at + 1) tail true,
+        else_size_is tail first second (else_place at tail first second + size tail true second),
+        size_is second data_start place out_at (else_place at tail first second) tail true,
+      )
   node_size_is (Until body) data_start place out_at at tail reached = omega (arith, length-append (nodes_cells data_start place out_at at false true body) (branch_to at ∷ []), size_is body data_start place out_at at false true)
   node_size_is (While test body) data_start place out_at at tail reached =
-      omega (arith, length-append (nodes_cells data_start place out_at at false true test) (branch_to (while_place at test + size false true body + 1) ∷ (nodes_cells data_start place out_at (while_place at test) false true body ++ jump_to at ∷ [])), length-append (nodes_cells data_start place out_at (while_place at test) false true body) (jump_to at ∷ []), size_is test data_start place out_at at false true, size_is body data_start place out_at (while_place at test) false true)
+      omega (
+        arith,
+        length-append (nodes_cells data_start place out_at at false true test)
+            (branch_to (while_place at test + size false true body + 1)
+            ∷ (nodes_cells data_start place out_at (while_place at test) false true body ++ jump_to at ∷ [])),
+        length-append (nodes_cells data_start place out_at (while_place at test) false true body) (jump_to at ∷ []),
+        size_is test data_start place out_at at false true,
+        size_is body data_start place out_at (while_place at test) false true,
+      )
   node_size_is (Again body) data_start place out_at at tail reached = omega (arith, length-append (nodes_cells data_start place out_at at false true body) (jump_to at ∷ []), size_is body data_start place out_at at false true)
-  node_size_is (Do body plus) data_start place out_at at tail reached = loop_size_is at body plus (nodes_cells data_start place (out_place at body plus) (at + 8) false true body) (size_is body data_start place (out_place at body plus) (at + 8) false true)
+  node_size_is (Do body plus) data_start place out_at at tail reached =
+      loop_size_is at body plus (nodes_cells data_start place (out_place at body plus) (at + 8) false true body)
+      (size_is body data_start place (out_place at body plus) (at + 8) false true)
   node_size_is (QDo body plus) data_start place out_at at tail reached =
       omega (arith, loop_size_is (at + 7) body plus (nodes_cells data_start place (out_place (at + 7) body plus) (at + 7 + 8) false true body) (size_is body data_start place (out_place (at + 7) body plus) (at + 7 + 8) false true))
   node_size_is (Case arms rest) data_start place out_at at tail reached =
@@ -127,7 +159,13 @@ mutual
   pub size_is : (nodes : Nodes) (data_start : ℕ) (place : Routine → ℕ) (out_at at : ℕ) (tail reached : Bool) → length (nodes_cells data_start place out_at at tail reached nodes) ≡ size tail reached nodes
   size_is Empty data_start place out_at at tail reached = refl
   size_is (Then node rest) data_start place out_at at tail reached =
-      omega (arith, length-append (node_cells data_start place out_at at (is_tail rest tail) reached node) (nodes_cells data_start place out_at (at + node_size (is_tail rest tail) reached node) tail (falls_through (is_tail rest tail) node) rest), node_size_is node data_start place out_at at (is_tail rest tail) reached, size_is rest data_start place out_at (at + node_size (is_tail rest tail) reached node) tail (falls_through (is_tail rest tail) node))
+      omega (
+        arith,
+        length-append (node_cells data_start place out_at at (is_tail rest tail) reached node)
+            (nodes_cells data_start place out_at (at + node_size (is_tail rest tail) reached node) tail (falls_through (is_tail rest tail) node) rest),
+        node_size_is node data_start place out_at at (is_tail rest tail) reached,
+        size_is rest data_start place out_at (at + node_size (is_tail rest tail) reached node) tail (falls_through (is_tail rest tail) node),
+      )
 
   pub arms_size_is : (arms : Arms) (data_start : ℕ) (place : Routine → ℕ) (out_at at : ℕ) (tail : Bool) (end_at : ℕ) → length (arms_cells data_start place out_at at tail end_at arms) ≡ arms_size tail arms
   arms_size_is NoArm data_start place out_at at tail end_at = refl
@@ -142,7 +180,13 @@ mutual
       )
 
 pub body_size_is : (data_start : ℕ) (place : Routine → ℕ) (at : ℕ) (body : Nodes) → length (body_cells data_start place at body) ≡ body_size body
-body_size_is data_start place at body = omega (arith, length-append (nodes_cells data_start place 0 at true true body) (cell_if (reaches_end true true body) return_cell), size_is body data_start place 0 at true true, if_size_is (reaches_end true true body) return_cell)
+body_size_is data_start place at body =
+    omega (
+      arith,
+      length-append (nodes_cells data_start place 0 at true true body) (cell_if (reaches_end true true body) return_cell),
+      size_is body data_start place 0 at true true,
+      if_size_is (reaches_end true true body) return_cell,
+    )
 
 word_token_size_is : (found : Option ℕ) (word : Word) (data_start : ℕ) → length (word_token_cells data_start found word) ≡ word_token_size found word
 word_token_size_is None word data_start = length-append (cells_from data_start word) (return_cell ∷ []) ∙ ap (λ n. n + 1) (from_size data_start word)
@@ -189,11 +233,14 @@ module _ (code : List ℕ) where
     abbrev cells_at : ℕ → ℕ → Bool → Nodes → List ℕ
     cells_at out_at at tail nodes = nodes_cells p.data_start place out_at at tail true nodes
 
-    call_stands : (tail : Bool) (r : Routine) (at : ℕ) (K : ℕ → Type 0) → StandIn code at (call_cell tail (place r) ∷ []) (at + 1) → at + 1 < 8192 → (not tail ≡ true → K (at + 1)) → CallStands code definitions p tail at (place r) (K (following at))
+    call_stands : (tail : Bool) (r : Routine) (at : ℕ) (K : ℕ → Type 0) → StandIn code at (call_cell tail (place r) ∷ []) (at + 1) → at + 1 < 8192 →
+        (not tail ≡ true → K (at + 1)) → CallStands code definitions p tail at (place r) (K (following at))
     call_stands true r at K h n k = holds at (jump_to (place r)) (Jump (place r)) [] (at + 1) h (decode_jump (place r) (low r))
     call_stands false r at K h n k = (holds at (call_to (place r)) (CallTo (place r)) [] (at + 1) h (decode_call (place r) (low r)), subst K (sym (next_is at n)) (k refl))
 
-    word_placed : (word : Word) (found : Option Routine) (tail : Bool) (at : ℕ) (K : ℕ → Type 0) → routine_of word ≡ found → word_is_laid_out executes words found word ≡ true → StandIn code at (word_cells p.data_start place tail found word) (at + word_size found word) → at + word_size found word < 8192 →
+    word_placed : (word : Word) (found : Option Routine) (tail : Bool) (at : ℕ) (K : ℕ → Type 0) → routine_of word ≡ found →
+        word_is_laid_out executes words found word ≡ true → StandIn code at (word_cells p.data_start place tail found word) (at + word_size found word) →
+        at + word_size found word < 8192 →
         (word_falls_through found tail ≡ true → K (at + word_size found word)) → PlainStands code definitions p tail at word K ⊎ ExecuteStands code definitions p tail at word K
     word_placed word None tail at K is fit h n k = inl (inl (at + length (cells_of word), fit, h, k refl))
     word_placed word (Some (Library number)) tail at K is fit h n k = inl (inr (place (Library number), call_stands tail (Library number) at K h n k, routine word number (number_of word number is) (let e = fit in grind (arith, nat_tests))))
@@ -201,12 +248,15 @@ module _ (code : List ℕ) where
     word_placed word (Some (Definition d)) tail at K is fit h n k = absurd (let f : false ≡ true = fit in cc)
     word_placed word (Some Aborting) tail at K is fit h n k = absurd (let f : false ≡ true = fit in cc)
 
-    text_placed : (kind : TextKind) (tail : Bool) (at : ℕ) (K : ℕ → Type 0) → executes ≡ true → text_is_laid_out words kind ≡ true → StandIn code at (text_cells place tail kind) (at + text_size kind) → at + text_size kind < 8192 → (text_falls_through kind tail ≡ true → K (at + text_size kind)) → TextStands code definitions p tail at kind K
+    text_placed : (kind : TextKind) (tail : Bool) (at : ℕ) (K : ℕ → Type 0) → executes ≡ true → text_is_laid_out words kind ≡ true →
+        StandIn code at (text_cells place tail kind) (at + text_size kind) → at + text_size kind < 8192 →
+        (text_falls_through kind tail ≡ true → K (at + text_size kind)) → TextStands code definitions p tail at kind K
     text_placed text.Address tail at K may fit h n k = let e : at + 0 ≡ at = omega arith in subst K e (k refl)
     text_placed text.Print tail at K may fit h n k = (place (Library 34), call_stands tail (Library 34) at K h n k, routine TypeOut 34 refl (let e = fit in grind (arith, nat_tests)))
     text_placed text.Abort tail at K may fit h n k = (place Aborting, call_stands tail Aborting at K h n k, aborter may (let e = fit in grind (arith, nat_tests)))
 
-    turn_stands : (plus : Bool) (at body_at out_at : ℕ) (more : List ℕ) (next : ℕ) → StandIn code at (turn_cells plus body_at out_at ++ more) next → body_at < 8192 → out_at ≡ at + turn_size plus → out_at < 8192 → TurnStands code definitions p plus at body_at out_at
+    turn_stands : (plus : Bool) (at body_at out_at : ℕ) (more : List ℕ) (next : ℕ) → StandIn code at (turn_cells plus body_at out_at ++ more) next →
+        body_at < 8192 → out_at ≡ at + turn_size plus → out_at < 8192 → TurnStands code definitions p plus at body_at out_at
     turn_stands false at body_at out_at more next h lt e lt' =
         let c = cut at 5 loop_cells (branch_to out_at ∷ jump_to body_at ∷ more) next refl (omega (arith, e)) h in
         let j = onward (at + 5) (branch_to out_at) (jump_to body_at ∷ more) next (omega (arith, e)) c.1 in (
@@ -229,7 +279,9 @@ module _ (code : List ℕ) where
     ArmsFit in_do arms = (in_arms (is_laid_out executes words (length p.bodies)) arms ≡ true) × (arms_fit in_do arms ≡ true)
 
     -- the parts of an item fit
-    two_fit : (in_do : Bool) (first second : Nodes) → (everywhere (is_laid_out executes words (length p.bodies)) first && everywhere (is_laid_out executes words (length p.bodies)) second) ≡ true → (leaves_fit in_do first && leaves_fit in_do second) ≡ true → AllFit in_do first × AllFit in_do second
+    two_fit : (in_do : Bool) (first second : Nodes) →
+        (everywhere (is_laid_out executes words (length p.bodies)) first && everywhere (is_laid_out executes words (length p.bodies)) second) ≡ true →
+        (leaves_fit in_do first && leaves_fit in_do second) ≡ true → AllFit in_do first × AllFit in_do second
     two_fit in_do first second e f =
         let items = both (everywhere (is_laid_out executes words (length p.bodies)) first) (everywhere (is_laid_out executes words (length p.bodies)) second) e in
         let leaves = both (leaves_fit in_do first) (leaves_fit in_do second) f in
@@ -252,8 +304,11 @@ module _ (code : List ℕ) where
         ((b.0, d.0), (b.1, d.1), (a.1, c.1))
 
     -- a loop, by where its body stands
-    loop_stands : (Body : Option ℕ → ℕ → (ℕ → Type 0) → Type 0) (body : Nodes) (plus : Bool) (at last : ℕ) (inner : List ℕ) (K : ℕ → Type 0) → length inner ≡ size false true body → StandIn code at (loop_code at body plus inner) last → last ≡ at + (8 + size false true body + turn_size plus + 4) → last < 8192 →
-        (StandIn code (at + 8) inner (at + 8 + size false true body) → slice_index code (out_place at body plus) ≡ 0x6B8D → Body (Some (out_place at body plus)) (at + 8) (λ e. e ≡ at + 8 + size false true body)) → K last → LoopStands code definitions p Body plus at K
+    loop_stands : (Body : Option ℕ → ℕ → (ℕ → Type 0) → Type 0) (body : Nodes) (plus : Bool) (at last : ℕ) (inner : List ℕ) (K : ℕ → Type 0) →
+        length inner ≡ size false true body → StandIn code at (loop_code at body plus inner) last →
+        last ≡ at + (8 + size false true body + turn_size plus + 4) → last < 8192 →
+        (StandIn code (at + 8) inner (at + 8 + size false true body) → slice_index code (out_place at body plus) ≡ 0x6B8D →
+        Body (Some (out_place at body plus)) (at + 8) (λ e. e ≡ at + 8 + size false true body)) → K last → LoopStands code definitions p Body plus at K
     loop_stands Body body plus at last inner K e h end n body_stands k =
         let drop_at = out_place at body plus in
         let after = turn_cells plus (at + 8) (out_place at body plus) ++ out_cells in
@@ -263,7 +318,8 @@ module _ (code : List ℕ) where
         (at + 8, at + 8 + size false true body, drop_at, last, c.0, body_stands d.0 g.1.0, turn_stands plus (at + 8 + size false true body) (at + 8) drop_at out_cells last d.1 (omega (arith, n, end)) refl (omega (arith, n, end)), g.1, k)
 
     -- OVER OVER = and what follows it, where ?DO leaves its loop out or not
-    skip_stands : (at loop_at end_at last : ℕ) (more : List ℕ) → StandIn code at (q_do_cells loop_at end_at ++ more) last → loop_at ≡ at + 7 → loop_at < 8192 → end_at < 8192 → SkipStands code definitions p at loop_at end_at × StandIn code (at + 7) more last
+    skip_stands : (at loop_at end_at last : ℕ) (more : List ℕ) → StandIn code at (q_do_cells loop_at end_at ++ more) last → loop_at ≡ at + 7 → loop_at < 8192 →
+        end_at < 8192 → SkipStands code definitions p at loop_at end_at × StandIn code (at + 7) more last
     skip_stands at loop_at end_at last more h e lt lt' =
         let c = cut at 3 (0x6181 ∷ 0x6181 ∷ 0x6703 ∷ []) (branch_to loop_at ∷ 0x6103 ∷ 0x6103 ∷ jump_to end_at ∷ more) last refl (omega (arith, e)) h in
         let d = onward (at + 3) (branch_to loop_at) (0x6103 ∷ 0x6103 ∷ jump_to end_at ∷ more) last (omega (arith, e)) c.1 in
@@ -282,7 +338,8 @@ module _ (code : List ℕ) where
         )
 
     -- OF
-    of_stands : (at body_at other_at last : ℕ) (more : List ℕ) → StandIn code at (of_cells other_at ++ more) last → body_at ≡ at + 4 → body_at < 8192 → other_at < 8192 → OfStands code definitions p at body_at other_at × StandIn code body_at more last
+    of_stands : (at body_at other_at last : ℕ) (more : List ℕ) → StandIn code at (of_cells other_at ++ more) last → body_at ≡ at + 4 → body_at < 8192 →
+        other_at < 8192 → OfStands code definitions p at body_at other_at × StandIn code body_at more last
     of_stands at body_at other_at last more h e lt lt' =
         let c = cut at 2 (0x6181 ∷ 0x6703 ∷ []) (branch_to other_at ∷ 0x6103 ∷ more) last refl (omega (arith, e)) h in
         let d = onward (at + 2) (branch_to other_at) (0x6103 ∷ more) last (omega (arith, e)) c.1 in
@@ -299,7 +356,8 @@ module _ (code : List ℕ) where
 
     mutual
       placed : (node : Node) (tail in_do : Bool) (out : Option ℕ) (out_at at : ℕ) (K : ℕ → Type 0) → Fits in_do node → (in_do ≡ true → out ≡ Some out_at) → out_at < 8192 →
-          StandIn code at (node_cells p.data_start place out_at at tail true node) (at + node_size tail true node) → at + node_size tail true node < 8192 → (falls_through tail node ≡ true → K (at + node_size tail true node)) → Placed code definitions p out at tail node K
+          StandIn code at (node_cells p.data_start place out_at at tail true node) (at + node_size tail true node) → at + node_size tail true node < 8192 →
+          (falls_through tail node ≡ true → K (at + node_size tail true node)) → Placed code definitions p out at tail node K
       placed (Literal value) tail in_do out out_at at K fit inner lt h n k = (at + length (number_cells value), (let e = fit.0 in grind (arith, nat_tests)), h, k refl)
       placed (Plain word) tail in_do out out_at at K fit inner lt h n k = word_placed word (routine_of word) tail at K refl fit.0 h n k
       placed (Call d) tail in_do out out_at at K fit inner lt h n k = ((let e = fit.0 in grind (arith, nat_tests)), call_stands tail (Definition d) at K h n k)
@@ -338,12 +396,17 @@ module _ (code : List ℕ) where
           let target = else_place at tail first Empty in
           let last = at + node_size tail true (If first Empty) in
           let fits = two_fit in_do first Empty fit.1 fit.2 in
-          let c = cut (at + 1) (size tail true first) (cells_at out_at (at + 1) tail first) [] (at + node_size tail true (If first Empty)) (size_is first p.data_start place out_at (at + 1) tail true) (omega (arith, n)) (onward at (branch_to (else_place at tail first Empty)) (cells_at out_at (at + 1) tail first ++ []) (at + node_size tail true (If first Empty)) (omega (arith, n)) h) in
+          let c =
+          cut (at + 1) (size tail true first) (cells_at out_at (at + 1) tail first) [] (at + node_size tail true (If first Empty))
+          (size_is first p.data_start place out_at (at + 1) tail true) (omega (arith, n))
+          (onward at (branch_to (else_place at tail first Empty)) (cells_at out_at (at + 1) tail first ++ [])
+          (at + node_size tail true (If first Empty)) (omega (arith, n)) h) in
           let e : at + node_size tail true (If first Empty) ≡ else_place at tail first Empty = omega arith in
           let e' : at + node_size tail true (If first Empty) ≡ at + 1 + size tail true first = omega arith in
           let k' = k (either (reaches_end tail true first) true refl) in (
             target,
-            holds at (branch_to (else_place at tail first Empty)) (Branch (else_place at tail first Empty)) (cells_at out_at (at + 1) tail first ++ []) (at + node_size tail true (If first Empty)) h (decode_branch (else_place at tail first Empty) (omega (arith, n))),
+            holds at (branch_to (else_place at tail first Empty)) (Branch (else_place at tail first Empty)) (cells_at out_at (at + 1) tail first ++ [])
+                (at + node_size tail true (If first Empty)) h (decode_branch (else_place at tail first Empty) (omega (arith, n))),
             subst (λ x. AllPlaced code definitions p out x tail first K) (sym (next_is at (omega (arith, n)))) (all_placed first tail in_do out out_at (at + 1) K fits.0 inner lt c.0 (omega (arith, n)) (λ g. subst K e' k')),
             subst K e k',
           )
@@ -354,7 +417,11 @@ module _ (code : List ℕ) where
           let second = cells_at out_at (else_place at tail first (Then node rest)) tail (Then node rest) in
           let reached = reaches_end tail true first in
           let fits = two_fit in_do first (Then node rest) fit.1 fit.2 in
-          let c = cut (at + 1) (size tail true first) (cells_at out_at (at + 1) tail first) (cell_if reached (jump_to target) ++ second) last (size_is first p.data_start place out_at (at + 1) tail true) (omega (arith, n)) (onward at (branch_to second_at) (cells_at out_at (at + 1) tail first ++ (cell_if reached (jump_to target) ++ second)) last (omega (arith, n)) h) in
+          let c =
+          cut (at + 1) (size tail true first) (cells_at out_at (at + 1) tail first) (cell_if reached (jump_to target) ++ second) last
+          (size_is first p.data_start place out_at (at + 1) tail true) (omega (arith, n))
+          (onward at (branch_to second_at) (cells_at out_at (at + 1) tail first ++ (cell_if reached (jump_to target) ++ second)) last (omega (arith, n))
+          h) in
           let d = cut (at + 1 + size tail true first) (size_if reached) (cell_if reached (jump_to target)) second last (if_size_is reached (jump_to target)) (omega (arith, n)) c.1 in
           let e : last ≡ target = omega arith in
           let k' : falls_through tail (If first (Then node rest)) ≡ true → K (else_place at tail first (Then node rest) + size tail true (Then node rest)) = λ g. subst K e (k g) in (
@@ -362,14 +429,25 @@ module _ (code : List ℕ) where
             holds at (branch_to second_at) (Branch second_at) (cells_at out_at (at + 1) tail first ++ (cell_if reached (jump_to target) ++ second)) last h (decode_branch second_at (omega (arith, n))),
             subst (λ x. AllPlaced code definitions p out x tail first (λ e. (next : ℕ) × HoldsInstruction code e (Jump next) × K next)) (sym (next_is at (omega (arith, n))))
                 (all_placed first tail in_do out out_at (at + 1) (λ e. (next : ℕ) × HoldsInstruction code e (Jump next) × K next) fits.0 inner lt c.0 (omega (arith, n))
-                (λ g. (target, holds_if reached (at + 1 + size tail true first) (jump_to target) (Jump target) (at + 1 + size tail true first + size_if reached) g d.0 (decode_jump target (omega (arith, n))), k' (ap (λ b. b || reaches_end tail true (Then node rest)) g)))),
-            all_placed (Then node rest) tail in_do out out_at (else_place at tail first (Then node rest)) K fits.1 inner lt (subst (StandIn code (else_place at tail first (Then node rest)) second) e d.1) (omega (arith, n)) (λ g. k' (either (reaches_end tail true first) (reaches_end tail true (Then node rest)) g)),
+                (λ g. (
+                  target,
+                  holds_if reached (at + 1 + size tail true first) (jump_to target) (Jump target) (at + 1 + size tail true first + size_if reached) g d.0
+                      (decode_jump target (omega (arith, n))),
+                  k' (ap (λ b. b || reaches_end tail true (Then node rest)) g),
+                ))),
+            all_placed (Then node rest) tail in_do out out_at (else_place at tail first (Then node rest)) K fits.1 inner lt
+                (subst (StandIn code (else_place at tail first (Then node rest)) second) e d.1) (omega (arith, n))
+                (λ g. k' (either (reaches_end tail true first) (reaches_end tail true (Then node rest)) g)),
           )
       placed (Until body) tail in_do out out_at at K fit inner lt h n k =
           let end = at + size false true body in
           let c = cut at (size false true body) (cells_at out_at at false body) (branch_to at ∷ []) (at + (size false true body + 1)) (size_is body p.data_start place out_at at false true) (omega (arith, n)) h in
-          let e : at + (size false true body + 1) ≡ following (at + size false true body) = omega (arith, n) in
-          (end, all_placed body false in_do out out_at at (λ x. x ≡ end) (fit.1, fit.2) inner lt c.0 (omega (arith, n)) (λ g. refl), holds end (branch_to at) (Branch at) [] (at + (size false true body + 1)) c.1 (decode_branch at (omega (arith, n))), subst K e (k refl))
+          let e : at + (size false true body + 1) ≡ following (at + size false true body) = omega (arith, n) in (
+            end,
+            all_placed body false in_do out out_at at (λ x. x ≡ end) (fit.1, fit.2) inner lt c.0 (omega (arith, n)) (λ g. refl),
+            holds end (branch_to at) (Branch at) [] (at + (size false true body + 1)) c.1 (decode_branch at (omega (arith, n))),
+            subst K e (k refl),
+          )
       placed (While test body) tail in_do out out_at at K fit inner lt h n k =
           let test_end = at + size false true test in
           let body_end = while_place at test + size false true body in
@@ -378,24 +456,34 @@ module _ (code : List ℕ) where
           let body_cells = cells_at out_at (while_place at test) false body in
           let fits = two_fit in_do test body fit.1 fit.2 in
           let c = cut at (size false true test) (cells_at out_at at false test) (branch_to next ∷ (body_cells ++ jump_to at ∷ [])) last (size_is test p.data_start place out_at at false true) (omega (arith, n)) h in
-          let d = cut (while_place at test) (size false true body) body_cells (jump_to at ∷ []) last (size_is body p.data_start place out_at (while_place at test) false true) (omega (arith, n)) (onward (at + size false true test) (branch_to next) (body_cells ++ jump_to at ∷ []) last (omega (arith, n)) c.1) in
+          let d =
+          cut (while_place at test) (size false true body) body_cells (jump_to at ∷ []) last
+          (size_is body p.data_start place out_at (while_place at test) false true) (omega (arith, n))
+          (onward (at + size false true test) (branch_to next) (body_cells ++ jump_to at ∷ []) last (omega (arith, n)) c.1) in
           let e : last ≡ next = omega arith in (
             test_end,
             body_end,
             next,
             all_placed test false in_do out out_at at (λ x. x ≡ test_end) fits.0 inner lt c.0 (omega (arith, n)) (λ g. refl),
             holds test_end (branch_to next) (Branch next) (body_cells ++ jump_to at ∷ []) last c.1 (decode_branch next (omega (arith, n))),
-            subst (λ x. AllPlaced code definitions p out x false body (λ y. y ≡ body_end)) (sym (next_is test_end (omega (arith, n)))) (all_placed body false in_do out out_at (while_place at test) (λ x. x ≡ body_end) fits.1 inner lt d.0 (omega (arith, n)) (λ g. refl)),
+            subst (λ x. AllPlaced code definitions p out x false body (λ y. y ≡ body_end)) (sym (next_is test_end (omega (arith, n))))
+                (all_placed body false in_do out out_at (while_place at test) (λ x. x ≡ body_end) fits.1 inner lt d.0 (omega (arith, n)) (λ g. refl)),
             holds body_end (jump_to at) (Jump at) [] last d.1 (decode_jump at (omega (arith, n))),
             subst K e (k refl),
           )
       placed (Again body) tail in_do out out_at at K fit inner lt h n k =
           let end = at + size false true body in
-          let c = cut at (size false true body) (cells_at out_at at false body) (jump_to at ∷ []) (at + (size false true body + 1)) (size_is body p.data_start place out_at at false true) (omega (arith, n)) h in
-          (end, all_placed body false in_do out out_at at (λ x. x ≡ end) (fit.1, fit.2) inner lt c.0 (omega (arith, n)) (λ g. refl), holds end (jump_to at) (Jump at) [] (at + (size false true body + 1)) c.1 (decode_jump at (omega (arith, n))))
+          let c = cut at (size false true body) (cells_at out_at at false body) (jump_to at ∷ []) (at + (size false true body + 1)) (size_is body p.data_start place out_at at false true) (omega (arith, n)) h in (
+            end,
+            all_placed body false in_do out out_at at (λ x. x ≡ end) (fit.1, fit.2) inner lt c.0 (omega (arith, n)) (λ g. refl),
+            holds end (jump_to at) (Jump at) [] (at + (size false true body + 1)) c.1 (decode_jump at (omega (arith, n))),
+          )
       placed (Do body plus) tail in_do out out_at at K fit inner lt h n k =
-          loop_stands (λ o q. AllPlaced code definitions p o q false body) body plus at (at + node_size tail true (Do body plus)) (cells_at (out_place at body plus) (at + 8) false body) K (size_is body p.data_start place (out_place at body plus) (at + 8) false true) h refl n
-          (λ stands drop. all_placed body false true (Some (out_place at body plus)) (out_place at body plus) (at + 8) (λ x. x ≡ at + 8 + size false true body) (fit.1, fit.2) (λ t. refl) (omega (arith, n)) stands (omega (arith, n)) (λ g. refl)) (k refl)
+          loop_stands (λ o q. AllPlaced code definitions p o q false body) body plus at (at + node_size tail true (Do body plus))
+          (cells_at (out_place at body plus) (at + 8) false body) K (size_is body p.data_start place (out_place at body plus) (at + 8) false true) h refl n
+          (λ stands drop.
+          all_placed body false true (Some (out_place at body plus)) (out_place at body plus) (at + 8) (λ x. x ≡ at + 8 + size false true body)
+          (fit.1, fit.2) (λ t. refl) (omega (arith, n)) stands (omega (arith, n)) (λ g. refl)) (k refl)
       placed (QDo body plus) tail in_do out out_at at K fit inner lt h n k =
           let last = at + node_size tail true (QDo body plus) in
           let end_at = out_place (at + 7) body plus + 4 in
@@ -407,7 +495,10 @@ module _ (code : List ℕ) where
             s.0,
             subst K e (k refl),
             loop_stands (λ o q. AllPlaced code definitions p o q false body) body plus (at + 7) last body_code K (size_is body p.data_start place (out_place (at + 7) body plus) (at + 7 + 8) false true) s.1 (omega arith) n
-                (λ stands drop. all_placed body false true (Some (out_place (at + 7) body plus)) (out_place (at + 7) body plus) (at + 7 + 8) (λ x. x ≡ at + 7 + 8 + size false true body) (fit.1, fit.2) (λ t. refl) (omega (arith, n)) stands (omega (arith, n)) (λ g. refl)) (k refl),
+                (λ stands drop.
+                all_placed body false true (Some (out_place (at + 7) body plus)) (out_place (at + 7) body plus) (at + 7 + 8)
+                (λ x. x ≡ at + 7 + 8 + size false true body) (fit.1, fit.2) (λ t. refl) (omega (arith, n)) stands (omega (arith, n)) (λ g. refl))
+                (k refl),
           )
       placed (Case arms rest) tail in_do out out_at at K fit inner lt h n k =
           let last = at + node_size tail true (Case arms rest) in
@@ -420,29 +511,39 @@ module _ (code : List ℕ) where
           let e : last ≡ end_at = omega arith in
           let c = cut at (arms_size tail arms) (arms_cells p.data_start place out_at at tail end_at arms) (rest_code ++ end_case_cells) last (arms_size_is arms p.data_start place out_at at tail end_at) (omega (arith, n)) h in
           let d = cut rest_at (size false true rest) rest_code end_case_cells last (size_is rest p.data_start place out_at rest_at false true) (omega (arith, n)) c.1 in
-          arms_placed arms tail in_do out out_at at end_at K (λ q. (drop_at : ℕ) × (next : ℕ) × AllPlaced code definitions p out q false rest (λ x. x ≡ drop_at) × StandIn code drop_at end_case_cells next × K next) (items.0, leaves.0) inner lt c.0 (omega (arith, n)) (omega (arith, n)) (subst K e (k refl))
+          arms_placed arms tail in_do out out_at at end_at K
+          (λ q.
+          (drop_at : ℕ) × (next : ℕ) × AllPlaced code definitions p out q false rest (λ x. x ≡ drop_at) × StandIn code drop_at end_case_cells next
+          × K next) (items.0, leaves.0) inner lt c.0 (omega (arith, n)) (omega (arith, n)) (subst K e (k refl))
           (drop_at, last, all_placed rest false in_do out out_at rest_at (λ x. x ≡ drop_at) (items.1, leaves.1) inner lt d.0 (omega (arith, n)) (λ g. refl), d.1, k refl)
       placed Leave tail in_do out out_at at K fit inner lt h n k = (out_at, inner fit.2, holds at (jump_to out_at) (Jump out_at) [] (at + 1) h (decode_jump out_at lt))
       placed Exit tail in_do out out_at at K fit inner lt h n k = holds at return_cell (decoded 0x700C) [] (at + 1) h refl
 
       pub all_placed : (nodes : Nodes) (tail in_do : Bool) (out : Option ℕ) (out_at at : ℕ) (K : ℕ → Type 0) → AllFit in_do nodes → (in_do ≡ true → out ≡ Some out_at) → out_at < 8192 →
-          StandIn code at (nodes_cells p.data_start place out_at at tail true nodes) (at + size tail true nodes) → at + size tail true nodes < 8192 → (reaches_end tail true nodes ≡ true → K (at + size tail true nodes)) → AllPlaced code definitions p out at tail nodes K
+          StandIn code at (nodes_cells p.data_start place out_at at tail true nodes) (at + size tail true nodes) → at + size tail true nodes < 8192 →
+          (reaches_end tail true nodes ≡ true → K (at + size tail true nodes)) → AllPlaced code definitions p out at tail nodes K
       all_placed Empty tail in_do out out_at at K fit inner lt h n k = let e : at + 0 ≡ at = omega arith in subst K e (k refl)
       all_placed (Then node rest) tail in_do out out_at at K fit inner lt h n k =
           let fits = list_fits in_do node rest fit in
           let here = is_tail rest tail in
           let reached = falls_through here node in
           let middle = at + node_size here true node in
-          let c = cut at (node_size here true node) (node_cells p.data_start place out_at at here true node) (nodes_cells p.data_start place out_at middle tail reached rest) (at + (node_size here true node + size tail reached rest)) (node_size_is node p.data_start place out_at at here true) (omega (arith, n)) h in
+          let c =
+          cut at (node_size here true node) (node_cells p.data_start place out_at at here true node)
+          (nodes_cells p.data_start place out_at middle tail reached rest) (at + (node_size here true node + size tail reached rest))
+          (node_size_is node p.data_start place out_at at here true) (omega (arith, n)) h in
           let e : at + (node_size here true node + size tail reached rest) ≡ at + node_size here true node + size tail reached rest = omega arith in
           -- what is asked of the items behind it, to which code leads or not
-          let Behind : Bool → Type 0 = λ reached. StandIn code middle (nodes_cells p.data_start place out_at middle tail reached rest) (middle + size tail reached rest) × (middle + size tail reached rest < 8192) × (reaches_end tail reached rest ≡ true → K (middle + size tail reached rest)) in
+          let Behind : Bool → Type 0 = λ reached.
+          StandIn code middle (nodes_cells p.data_start place out_at middle tail reached rest) (middle + size tail reached rest)
+          × (middle + size tail reached rest < 8192) × (reaches_end tail reached rest ≡ true → K (middle + size tail reached rest)) in
           let behind : Behind reached = (subst (StandIn code middle (nodes_cells p.data_start place out_at middle tail reached rest)) e c.1, omega (arith, n), λ g. subst K e (k g)) in
           placed node here in_do out out_at at (λ q. AllPlaced code definitions p out q tail rest K) fits.0 inner lt c.0 (omega (arith, n))
           (λ g. let b = subst Behind g behind in all_placed rest tail in_do out out_at middle K fits.1 inner lt b.0 b.1 b.2)
 
       arms_placed : (arms : Arms) (tail in_do : Bool) (out : Option ℕ) (out_at at end_at : ℕ) (K L : ℕ → Type 0) → ArmsFit in_do arms → (in_do ≡ true → out ≡ Some out_at) → out_at < 8192 →
-          StandIn code at (arms_cells p.data_start place out_at at tail end_at arms) (at + arms_size tail arms) → at + arms_size tail arms < 8192 → end_at < 8192 → K end_at → L (at + arms_size tail arms) → ArmsPlaced code definitions p out at tail arms K L
+          StandIn code at (arms_cells p.data_start place out_at at tail end_at arms) (at + arms_size tail arms) → at + arms_size tail arms < 8192 →
+          end_at < 8192 → K end_at → L (at + arms_size tail arms) → ArmsPlaced code definitions p out at tail arms K L
       arms_placed NoArm tail in_do out out_at at end_at K L fit inner lt h n low k l = let e : at + 0 ≡ at = omega arith in subst L e l
       arms_placed (Arm tests body others) tail in_do out out_at at end_at K L fit inner lt h n low k l =
           let fits = arm_fits in_do tests body others fit in
@@ -455,7 +556,10 @@ module _ (code : List ℕ) where
           let body_code = cells_at out_at body_at tail body in
           let others_code = arms_cells p.data_start place out_at other_at tail end_at others in
           let own = size false true tests + 4 + size tail true body + size_if reached in
-          let a = cut at own (arm_code at tail end_at tests body tests_code body_code) others_code last (arm_size_is at tail end_at tests body tests_code body_code (size_is tests p.data_start place out_at at false true) (size_is body p.data_start place out_at body_at tail true)) (omega (arith, n)) h in
+          let a =
+          cut at own (arm_code at tail end_at tests body tests_code body_code) others_code last
+          (arm_size_is at tail end_at tests body tests_code body_code (size_is tests p.data_start place out_at at false true)
+          (size_is body p.data_start place out_at body_at tail true)) (omega (arith, n)) h in
           let c = cut at (size false true tests) tests_code (of_cells other_at ++ (body_code ++ cell_if reached (jump_to end_at))) (at + own) (size_is tests p.data_start place out_at at false true) (omega (arith, n)) a.0 in
           let o = of_stands of_at body_at other_at (at + own) (body_code ++ cell_if reached (jump_to end_at)) c.1 refl (omega (arith, n)) (omega (arith, n)) in
           let d = cut body_at (size tail true body) body_code (cell_if reached (jump_to end_at)) (at + own) (size_is body p.data_start place out_at body_at tail true) (omega (arith, n)) o.1 in
@@ -474,7 +578,8 @@ module _ (code : List ℕ) where
     -- ---- tokens
 
     -- that of a word, by its own cells or by its routine
-    word_token_stands : (word : Word) (found : Option ℕ) (at : ℕ) → library_number word ≡ found → word_is_laid_out false words (numbered found) word ≡ true → StandIn code at (word_token_cells p.data_start found word) (at + word_token_size found word) → at + word_token_size found word < 8192 →
+    word_token_stands : (word : Word) (found : Option ℕ) (at : ℕ) → library_number word ≡ found → word_is_laid_out false words (numbered found) word ≡ true →
+        StandIn code at (word_token_cells p.data_start found word) (at + word_token_size found word) → at + word_token_size found word < 8192 →
         ((next : ℕ) × (stands_plain word ≡ true) × StandIn code (word_token_place place at found) (cells_from p.data_start word) next × Returns code definitions p next) ⊎ IsRoutine p.data_start code word (word_token_place place at found)
     word_token_stands word None at is fit h n =
         let c = cut at (length (cells_of word)) (cells_from p.data_start word) (return_cell ∷ []) (at + (length (cells_of word) + 1)) (from_size p.data_start word) (omega (arith, n)) h in
@@ -482,7 +587,9 @@ module _ (code : List ℕ) where
     word_token_stands word (Some number) at is fit h n = inr (routine word number is (let e = fit in grind (arith, nat_tests)))
 
     -- the code of a token stands where it was laid
-    token_stands : (node : Node) (at : ℕ) → token_is_laid_out words (length p.bodies) node ≡ true → StandIn code at (token_cells p.data_start place node) (at + token_size node) → at + token_size node < 8192 → TokenStands code definitions p node (token_place place at node)
+    token_stands : (node : Node) (at : ℕ) → token_is_laid_out words (length p.bodies) node ≡ true →
+        StandIn code at (token_cells p.data_start place node) (at + token_size node) → at + token_size node < 8192 →
+        TokenStands code definitions p node (token_place place at node)
     token_stands (Literal value) at fit h n =
         let next = at + length (number_cells value) in
         let last = at + (length (number_cells value) + 1) in
@@ -525,7 +632,9 @@ module _ (code : List ℕ) where
     token_place_low node at lt = lt
 
     -- each token's jump leads to its code
-    pub tokens_stand : (tokens : List Node) (jump_at at next next' : ℕ) → list_all (token_is_laid_out words (length p.bodies)) tokens ≡ true → StandIn code jump_at (token_jumps place at tokens) next → StandIn code at (tokens_cells p.data_start place tokens) next' → jump_at + length tokens < 8192 → at + length (tokens_cells p.data_start place tokens) < 8192 →
+    pub tokens_stand : (tokens : List Node) (jump_at at next next' : ℕ) → list_all (token_is_laid_out words (length p.bodies)) tokens ≡ true →
+        StandIn code jump_at (token_jumps place at tokens) next → StandIn code at (tokens_cells p.data_start place tokens) next' →
+        jump_at + length tokens < 8192 → at + length (tokens_cells p.data_start place tokens) < 8192 →
         (k : ℕ) (node : Node) → slice_get tokens k ≡ Some node → (target : ℕ) × HoldsInstruction code (jump_at + k) (Jump target) × TokenStands code definitions p node target
     tokens_stand [] jump_at at next next' fit j h n n' k node found = let f : None ≡ Some node = (sym (slice_get_past [] k (omega arith)) ∙ found) in cc
     tokens_stand (token ∷ tokens) jump_at at next next' fit j h n n' zero node found =
@@ -535,7 +644,9 @@ module _ (code : List ℕ) where
         let c = cut at (token_size token) (token_cells p.data_start place token) (tokens_cells p.data_start place tokens) next' (token_size_is token p.data_start place) (omega (arith, n', len, token_size_is token p.data_start place)) h in
         let same : jump_at + 0 ≡ jump_at = omega arith in (
           token_place place at token,
-          subst (λ q. HoldsInstruction code q (Jump (token_place place at token))) (sym same) (holds jump_at (jump_to (token_place place at token)) (Jump (token_place place at token)) (token_jumps place (at + token_size token) tokens) next j (decode_jump (token_place place at token) (token_place_low token at (omega arith)))),
+          subst (λ q. HoldsInstruction code q (Jump (token_place place at token))) (sym same)
+              (holds jump_at (jump_to (token_place place at token)) (Jump (token_place place at token)) (token_jumps place (at + token_size token) tokens) next
+              j (decode_jump (token_place place at token) (token_place_low token at (omega arith)))),
           subst (λ x. TokenStands code definitions p x (token_place place at token)) e (token_stands token at f.0 c.0 (omega (arith, n', len, token_size_is token p.data_start place))),
         )
     tokens_stand (token ∷ tokens) jump_at at next next' fit j h n n' (suc k) node found =

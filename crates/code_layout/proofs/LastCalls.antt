@@ -13,7 +13,10 @@ use Rattle.forth_program.specs.Form.{everywhere, has_id_below, calls_go_back, le
 use Rattle.word_laws.specs.Numbers.{number_cells}
 use Rattle.word_laws.specs.Standing.{StandIn, CellsStand}
 use Rattle.code_layout.specs.Numbering.{library_number}
-use Rattle.code_layout.specs.Layout.{Routine, Definition, Library, Executing, Aborting, type_routine, jump_to, branch_to, call_to, return_cell, body_size, body_cells, bodies_cells, begins_at, bodies_size, execute_cells, abort_cells, word_token_cells, word_token_place, token_cells, token_size, tokens_cells, token_place, token_jumps, library_place, execute_place, abort_place, first_place, tokens_place, routine_place, laid_out}
+use Rattle.code_layout.specs.Layout.{Routine, Definition, Library, Executing, Aborting, type_routine, jump_to, branch_to, call_to, return_cell, body_size}
+use Rattle.code_layout.specs.Layout.{body_cells, bodies_cells, begins_at, bodies_size, execute_cells, abort_cells, word_token_cells, word_token_place}
+use Rattle.code_layout.specs.Layout.{token_cells, token_size, tokens_cells, token_place, token_jumps, library_place, execute_place, abort_place, first_place}
+use Rattle.code_layout.specs.Layout.{tokens_place, routine_place, laid_out}
 use Rattle.code_layout.specs.Built.{is_laid_out, IsBuilt}
 use Rattle.code_layout.specs.Library.{each_uses_earlier, IsLibrary}
 use Rattle.code_layout.specs.LastCalls.{IsReturn, IsCallCell, LastCalls, begins_well, all_begin_well}
@@ -82,14 +85,17 @@ module _ (code : List ℕ) (data_start : ℕ) (place : Routine → ℕ) (low : (
       let parts = cut code at (body_size body) (body_cells data_start place at body) rest next (body_size_is data_start place at body) (omega (arith, n, whole, own)) h in
       let own_at : place (Library number) ≡ at = let e : number + 0 ≡ number = omega arith in ap (λ k. place (Library k)) (sym e) ∙ sym (begins 0 (omega arith)) in
       let near' : (k : ℕ) → k < suc number → place (Library k) ≤ at = λ k lt. ⊎_elim (λ before. near k before) (λ le. let same : k ≡ number = omega arith in omega (arith, ap (λ k. place (Library k)) same, own_at)) (cases_lt k number) in
-      let one = body_followed code data_start place low false number 0 (is_laid_out false number 0) at (λ d e f. absurd (grind (arith, nat_tests))) (λ k e. near k (grind (arith, nat_tests))) (λ e. absurd (let f : false ≡ true = e in cc)) body
+      let one =
+      body_followed code data_start place low false number 0 (is_laid_out false number 0) at (λ d e f. absurd (grind (arith, nat_tests)))
+      (λ k e. near k (grind (arith, nat_tests))) (λ e. absurd (let f : false ≡ true = e in cc)) body
       (record { are_laid = a.0; all_back = a.0; have_cells = c.0; leaves = d.0 }) parts.0 (omega (arith, n, whole, own)) in
       let two = library_followed (at + body_size body) (suc number) next bodies (λ k lt. let m = near' k lt in omega (arith, m))
       (λ k lt. let e : number + suc k ≡ suc number + k = omega arith in begins (suc k) (omega arith) ∙ ap (λ k. place (Library k)) e) a.1 c.1 d.1 parts.1 (omega (arith, n, whole, own)) in
       let e : at + length (bodies_cells data_start place at (body ∷ bodies)) ≡ at + body_size body + length rest = omega (arith, whole, own) in
       subst (CallsFollowed code at) (sym e) (followed_join code at (at + body_size body) (at + body_size body + length rest) one two)
 
-  bodies_followed : (words count first : ℕ) → ((number : ℕ) → number < words → place (Library number) ≤ first) → place Executing ≤ first → (at definition next : ℕ) (bodies : List Nodes) → first ≤ at → ((d : ℕ) → d < definition → place (Definition d) ≤ at) →
+  bodies_followed : (words count first : ℕ) → ((number : ℕ) → number < words → place (Library number) ≤ first) → place Executing ≤ first →
+      (at definition next : ℕ) (bodies : List Nodes) → first ≤ at → ((d : ℕ) → d < definition → place (Definition d) ≤ at) →
       ((k : ℕ) → k < length bodies → begins_at at bodies k ≡ place (Definition (definition + k))) →
       list_all (everywhere (is_laid_out true words count)) bodies ≡ true → calls_go_back definition bodies ≡ true → list_all (everywhere begins_well) bodies ≡ true → list_all (leaves_fit false) bodies ≡ true →
       StandIn code at (bodies_cells data_start place at bodies) next → at + length (bodies_cells data_start place at bodies) + 1 < 8192 → CallsFollowed code at (at + length (bodies_cells data_start place at bodies))
@@ -104,8 +110,12 @@ module _ (code : List ℕ) (data_start : ℕ) (place : Routine → ℕ) (low : (
       let own = body_size_is data_start place at body in
       let parts = cut code at (body_size body) (body_cells data_start place at body) rest next (body_size_is data_start place at body) (omega (arith, n, whole, own)) h in
       let own_at : place (Definition definition) ≡ at = let e : definition + 0 ≡ definition = omega arith in ap (λ k. place (Definition k)) (sym e) ∙ sym (begins 0 (omega arith)) in
-      let near' : (k : ℕ) → k < suc definition → place (Definition k) ≤ at = λ k lt. ⊎_elim (λ before. near k before) (λ le. let same : k ≡ definition = omega arith in omega (arith, ap (λ k. place (Definition k)) same, own_at)) (cases_lt k definition) in
-      let one = body_followed code data_start place low true words count (has_id_below (suc definition)) at (λ d e f. near' d (grind (arith, nat_tests))) (λ k e. let l = near_words k (grind (arith, nat_tests)) in omega (arith, l, from)) (λ e. omega (arith, near_execute, from)) body
+      let near' : (k : ℕ) → k < suc definition → place (Definition k) ≤ at = λ k lt.
+      ⊎_elim (λ before. near k before) (λ le. let same : k ≡ definition = omega arith in omega (arith, ap (λ k. place (Definition k)) same, own_at))
+      (cases_lt k definition) in
+      let one =
+      body_followed code data_start place low true words count (has_id_below (suc definition)) at (λ d e f. near' d (grind (arith, nat_tests)))
+      (λ k e. let l = near_words k (grind (arith, nat_tests)) in omega (arith, l, from)) (λ e. omega (arith, near_execute, from)) body
       (record { are_laid = a.0; all_back = b.0; have_cells = c.0; leaves = d.0 }) parts.0 (omega (arith, n, whole, own)) in
       let two = bodies_followed words count first near_words near_execute (at + body_size body) (suc definition) next bodies (omega arith) (λ k lt. let m = near' k lt in omega (arith, m))
       (λ k lt. let e : definition + suc k ≡ suc definition + k = omega arith in begins (suc k) (omega arith) ∙ ap (λ k. place (Definition k)) e) a.1 b.1 c.1 d.1 parts.1 (omega (arith, n, whole, own)) in
@@ -134,7 +144,9 @@ begins_before at [] k lt = absurd (omega arith)
 begins_before at (body ∷ bodies) zero lt = omega arith
 begins_before at (body ∷ bodies) (suc k) lt = let h = begins_before (at + body_size body) bodies k (omega arith) in omega (arith, h)
 
-module _ (cells_stand : CellsStand) (library : List Nodes) (p : SourceProgram) (form : IsLibrary library) (library_well : list_all (everywhere begins_well) library ≡ true) (built : IsBuilt library p) (back : calls_go_back 0 p.bodies ≡ true) (well : all_begin_well p ≡ true) where
+module _ (cells_stand : CellsStand) (library : List Nodes) (p : SourceProgram) (form : IsLibrary library)
+    (library_well : list_all (everywhere begins_well) library ≡ true) (built : IsBuilt library p) (back : calls_go_back 0 p.bodies ≡ true)
+    (well : all_begin_well p ≡ true) where
   abbrev cells : List ℕ
   cells = (laid_out library p).cells
 
@@ -192,20 +204,31 @@ module _ (cells_stand : CellsStand) (library : List Nodes) (p : SourceProgram) (
       let size = whole in
       let fixed = cut cells 1 7 (0x8000 ∷ 0xC004 ∷ 0x6023 ∷ 0 ∷ 0 ∷ 0 ∷ 0 ∷ []) (jumps ++ (of_library ++ (of_execute ++ (of_abort ++ (of_program ++ of_tokens))))) end refl (omega arith) stand.2 in
       let a = cut cells 8 (length p.tokens) jumps (of_library ++ (of_execute ++ (of_abort ++ (of_program ++ of_tokens)))) end (jumps_length (routine_place library p) (tokens_place library p) p.tokens) (omega (arith, h, size)) fixed.1 in
-      let b = cut cells (library_place p) (bodies_size library) of_library (of_execute ++ (of_abort ++ (of_program ++ of_tokens))) end (bodies_size_is p.data_start (routine_place library p) (library_place p) library) (omega (arith, h, size)) a.1 in
+      let b =
+      cut cells (library_place p) (bodies_size library) of_library (of_execute ++ (of_abort ++ (of_program ++ of_tokens))) end
+      (bodies_size_is p.data_start (routine_place library p) (library_place p) library) (omega (arith, h, size)) a.1 in
       let c = cut cells (execute_place library p) 15 of_execute (of_abort ++ (of_program ++ of_tokens)) end refl (omega (arith, h, size)) b.1 in
       let d = cut cells (abort_place library p) 15 of_abort (of_program ++ of_tokens) end refl (omega (arith, h, size)) c.1 in
       let g = cut cells (first_place library p) (bodies_size p.bodies) of_program of_tokens end (bodies_size_is p.data_start (routine_place library p) (first_place library p) p.bodies) (omega (arith, h, size)) d.1 in
       let one : CallsFollowed cells 0 1 = λ c a b l m. let same : 1 ≡ c + 1 = omega arith in subst (MayFollow cells) same (other_cell cells 1 0x8000 stand.2.0 (omega arith) (λ e. absurd (omega (arith, e)))) in
       let two = no_calls cells 1 7 (0x8000 ∷ 0xC004 ∷ 0x6023 ∷ 0 ∷ 0 ∷ 0 ∷ 0 ∷ []) 8 refl refl (omega arith) fixed.0 in
-      let three = no_calls cells 8 (length p.tokens) jumps (library_place p) (jumps_have_none p.data_start (routine_place library p) low (tokens_place library p) p.tokens (omega (arith, h, size))) (jumps_length (routine_place library p) (tokens_place library p) p.tokens) (omega (arith, h, size)) a.0 in
+      let three =
+      no_calls cells 8 (length p.tokens) jumps (library_place p)
+      (jumps_have_none p.data_start (routine_place library p) low (tokens_place library p) p.tokens (omega (arith, h, size)))
+      (jumps_length (routine_place library p) (tokens_place library p) p.tokens) (omega (arith, h, size)) a.0 in
       let words_size = bodies_size_is p.data_start (routine_place library p) (library_place p) library in
       let defined_size = bodies_size_is p.data_start (routine_place library p) (first_place library p) p.bodies in
-      let four = library_followed cells p.data_start (routine_place library p) low (library_place p) 0 (execute_place library p) library (λ k lt. absurd (omega arith)) (λ k lt. ap (λ k. routine_place library p (Library k)) (zero_plus k)) form.items library_well form.leaves_in_loops b.0 (omega (arith, h, size, words_size)) in
+      let four =
+      library_followed cells p.data_start (routine_place library p) low (library_place p) 0 (execute_place library p) library
+      (λ k lt. absurd (omega arith)) (λ k lt. ap (λ k. routine_place library p (Library k)) (zero_plus k)) form.items library_well form.leaves_in_loops
+      b.0 (omega (arith, h, size, words_size)) in
       let five = execute_followed cells p.data_start (routine_place library p) low (execute_place library p) (length p.tokens) (abort_place library p) (omega (arith, h, size)) (omega (arith, h, size)) c.0 in
       let six = abort_followed cells p.data_start (routine_place library p) low (abort_place library p) (routine_place library p type_routine) (first_place library p) (low type_routine) (omega (arith, h, size)) d.0 in
       let begin = both (list_all (everywhere begins_well) p.bodies) (list_all begins_well p.tokens) well in
-      let seven = bodies_followed cells p.data_start (routine_place library p) low (length library) (length p.bodies) (first_place library p) (λ k lt. let m = begins_before (library_place p) library k lt in omega (arith, m)) (omega arith) (first_place library p) 0 (tokens_place library p) p.bodies (omega arith)
+      let seven =
+      bodies_followed cells p.data_start (routine_place library p) low (length library) (length p.bodies) (first_place library p)
+      (λ k lt. let m = begins_before (library_place p) library k lt in omega (arith, m)) (omega arith) (first_place library p) 0
+      (tokens_place library p) p.bodies (omega arith)
       (λ d lt. absurd (omega arith)) (λ k lt. ap (λ k. routine_place library p (Definition k)) (zero_plus k)) built.items back begin.0 built.leaves_in_loops g.0 (omega (arith, h, size, defined_size)) in
       let eight = no_calls cells (tokens_place library p) (length of_tokens) of_tokens end (tokens_have_none p.data_start (routine_place library p) low p.tokens) refl (omega (arith, h, size)) g.1 in
       let words_end : library_place p + length (bodies_cells p.data_start (routine_place library p) (library_place p) library) ≡ execute_place library p = omega (arith, words_size) in

@@ -64,7 +64,9 @@ module _ (laws : Laws) (library : List Nodes) (p : SourceProgram) (built : IsBui
   none_called : AllStand laws alone code places (code_size laws library p built)
   none_called = record { halt = halt_stands laws library p built; bodies = λ d lt. absurd (omega arith) }
 
-  module _ (word : Word) (number : ℕ) (is : library_number word ≡ Some number) (lt : number < length library) (items : everywhere is_own (slice_index_or library number Empty) ≡ true) (stands : Stands code places alone None (routine_place library p (Library number)) (before (slice_index_or library number Empty) [])) where
+  module _ (word : Word) (number : ℕ) (is : library_number word ≡ Some number) (lt : number < length library)
+      (items : everywhere is_own (slice_index_or library number Empty) ≡ true)
+      (stands : Stands code places alone None (routine_place library p (Library number)) (before (slice_index_or library number Empty) [])) where
     abbrev at : ℕ
     at = routine_place library p (Library number)
 
@@ -114,7 +116,10 @@ module _ (laws : Laws) (library : List Nodes) (p : SourceProgram) (built : IsBui
             let returns = f.returns in
             let height = ap callers_height d.callers in
             let none = own_execute alone d.state.work d.state.cells f.busy d.own in
-            subst (λ x. (length x.cells + peak_of x.callers (first_work x.work) ≤ high) × (return_height x + back_of (first_work x.work) ≤ return_high) × (return_height x + execute_back alone (first_work x.work) x.cells ≤ return_high)) (sym d.is)
+            subst
+            (λ x.
+            (length x.cells + peak_of x.callers (first_work x.work) ≤ high) × (return_height x + back_of (first_work x.work) ≤ return_high)
+            × (return_height x + execute_back alone (first_work x.work) x.cells ≤ return_high)) (sym d.is)
             (cells, omega (arith, returns, height, heights_join d.state.entries es, places_height es (Some 2 ∷ [])), omega (arith, returns, height, none, heights_join d.state.entries es, places_height es (Some 2 ∷ [])))
 
         depths : DepthsFit alone m.count start
@@ -128,7 +133,9 @@ module _ (laws : Laws) (library : List Nodes) (p : SourceProgram) (built : IsBui
       balance : (o : Reply (List ℕ)) → meaning word c w ≡ o → balanced (on_cells o (body_is_done c w)) ≡ true → (m : BodyMeans word body alone c w) → balanced (steps alone m.count (body_begins body c w)) ≡ true
       balance o e sound m = ap balanced (m.does ∙ ap (λ r. on_cells r (body_is_done c w)) e) ∙ sound
 
-      runs : (o : Reply (List ℕ)) → meaning word c w ≡ o → balanced (on_cells o (body_is_done c w)) ≡ true → lacks (deeper_outcome es (on_cells o (body_is_done c w))) ≡ false → (m : BodyMeans word body alone c w) → Reaches laws alone code places (code_size laws library p built) none_called m.count 2 (ahead (before body []) + 0) start there
+      runs : (o : Reply (List ℕ)) → meaning word c w ≡ o → balanced (on_cells o (body_is_done c w)) ≡ true →
+          lacks (deeper_outcome es (on_cells o (body_is_done c w))) ≡ false → (m : BodyMeans word body alone c w) →
+          Reaches laws alone code places (code_size laws library p built) none_called m.count 2 (ahead (before body []) + 0) start there
       runs o e balances sound m =
           reaches laws alone code places (code_size laws library p built) none_called m.count 2 at None start (Some 2 ∷ []) data_above return_above start_meets (ap lacks (does o e balances m) ∙ sound) (depths m (balance o e balances m))
 
@@ -165,7 +172,8 @@ module _ (laws : Laws) (library : List Nodes) (p : SourceProgram) (built : IsBui
             starts = stood.meets.starts;
           }
 
-      stopped : (end : End) (w' : World) (stop : Stop) → machine_end end ≡ Some stop → balanced (Ends end w') ≡ true → lacks (Ends end w') ≡ false → finds_cells (Stops end w') ≡ true → meaning word c w ≡ Stops end w' → Stopped p.data_start code there (routine_price word c w) high return_high end w'
+      stopped : (end : End) (w' : World) (stop : Stop) → machine_end end ≡ Some stop → balanced (Ends end w') ≡ true → lacks (Ends end w') ≡ false →
+          finds_cells (Stops end w') ≡ true → meaning word c w ≡ Stops end w' → Stopped p.data_start code there (routine_price word c w) high return_high end w'
       stopped end w' stop is_stop balances sound found e =
           let m = meant (Stops end w') e found in
           let r = runs (Stops end w') e balances sound m in
@@ -206,8 +214,13 @@ module _ (laws : Laws) (library : List Nodes) (p : SourceProgram) (built : IsBui
   routines_below (suc n) word number is lt lt' =
       let from_zero : 0 + number ≡ number = omega arith in
       is_routine word number is lt' (test_of (everywhere is_own) library number form.own_items lt')
-      (body_stands code (routine_place library p) alone false number (λ word' number' is' below. routines_below n word' number' is' (omega arith) (omega arith)) (λ e. absurd (let f : false ≡ true = e in cc)) (λ e. absurd (let f : false ≡ true = e in cc)) (low laws library p built) (routine_place library p (Library number)) (slice_index_or library number Empty)
-      (library_code laws library p built number lt') (subst (λ n. everywhere (is_laid_out false n 0) (slice_index_or library number Empty) ≡ true) from_zero (earlier_words 0 library number form.items lt')) (test_of (leaves_fit false) library number form.leaves_in_loops lt') (tokens_within library number lt'))
+      (body_stands code (routine_place library p) alone false number (λ word' number' is' below. routines_below n word' number' is' (omega arith) (omega arith))
+      (λ e. absurd (let f : false ≡ true = e in cc)) (λ e. absurd (let f : false ≡ true = e in cc)) (low laws library p built)
+      (routine_place library p (Library number)) (slice_index_or library number Empty)
+      (library_code laws library p built number lt')
+      (subst (λ n. everywhere (is_laid_out false n 0) (slice_index_or library number Empty) ≡ true) from_zero
+      (earlier_words 0 library number form.items lt')) (test_of (leaves_fit false) library number form.leaves_in_loops lt')
+      (tokens_within library number lt'))
 
   pub routines : (word : Word) (number : ℕ) → library_number word ≡ Some number → number < length library → IsRoutine p.data_start code word (routine_place library p (Library number))
   routines word number is lt = routines_below (suc number) word number is (omega arith) lt

@@ -62,7 +62,8 @@ entries_join (Loop limit index ∷ es) more f g = (f.0, f.1, entries_join es mor
 
 module _ (laws : Laws) (p : SourceProgram) (code : List ℕ) (place : ℕ → ℕ) (size : length code ≡ p.data_start / 2) where
   -- the return places of a frame that called, over those below it, as entries
-  joined : (tail : Bool) (f : Frame) (base below : List (Option ℕ)) (under : List Entry) → Called code place p tail f base below → below ≡ places_below under → AreEntries under → (above : List Entry) × (base ≡ places_below above) × AreEntries above
+  joined : (tail : Bool) (f : Frame) (base below : List (Option ℕ)) (under : List Entry) → Called code place p tail f base below → below ≡ places_below under →
+      AreEntries under → (above : List Entry) × (base ≡ places_below above) × AreEntries above
   joined true f base below under called is own = (f.entries ++ under, called.returns ∙ (ap (return_places f.entries) is ∙ sym (places_join f.entries under (Some 2 ∷ []))), entries_join f.entries under called.entries own)
   joined false f base below under called is own = (
     Cell (2 * following called.pc) ∷ (f.entries ++ under),
@@ -75,7 +76,8 @@ module _ (laws : Laws) (p : SourceProgram) (code : List ℕ) (place : ℕ → �
   flattened [] base h = ([], h, tt)
   flattened (f ∷ fs) base h = let r = flattened fs h.0 h.2 in joined (ends_body f.work) f base h.0 r.0 h.1 r.1 r.2
 
-  module _ (high return_high pc now : ℕ) (out : Option ℕ) (fs : List Frame) (world : World) (fits : IsWorld world) (starts : world.data_start ≡ p.data_start) (base data_above return_above : List (Option ℕ)) (frames : Frames code place p fs base) (due : unfinished fs ≤ now) where
+  module _ (high return_high pc now : ℕ) (out : Option ℕ) (fs : List Frame) (world : World) (fits : IsWorld world) (starts : world.data_start ≡ p.data_start)
+      (base data_above return_above : List (Option ℕ)) (frames : Frames code place p fs base) (due : unfinished fs ≤ now) where
     -- the state of a frame over these, and the machine there
     abbrev here : List Work → List Entry → List ℕ → State
     here w es c = record { work = w; entries = es; callers = fs; cells = c; world = world }
@@ -95,7 +97,9 @@ module _ (laws : Laws) (p : SourceProgram) (code : List ℕ) (place : ℕ → �
 
     module _ (at price most peak back : ℕ) (w : List Work) (es : List Entry) (c : List ℕ) (s_dear : price ≤ most) (room : length c + peak ≤ high) where
       -- one instruction leads into a routine, over these entries
-      module _ (under : List Entry) (above' : List (Option ℕ)) (entered : Runs p.data_start high return_high 1 (There es c) (standing_at_depths code at c (places_below under) data_above above' world)) (within : length (places_below under) + back - 1 ≤ return_high) where
+      module _ (under : List Entry) (above' : List (Option ℕ))
+          (entered : Runs p.data_start high return_high 1 (There es c) (standing_at_depths code at c (places_below under) data_above above' world))
+          (within : length (places_below under) + back - 1 ≤ return_high) where
         abbrev inside : OpenConfiguration
         inside = standing_at_depths code at c (places_below under) data_above above' world
 
@@ -109,20 +113,29 @@ module _ (laws : Laws) (p : SourceProgram) (code : List ℕ) (place : ℕ → �
         ends : (end : End) (world' : World) → Stopped p.data_start code inside price (length c + peak) (length (places_below under) + back - 1) end world' → Halts laws p code place size (There es c) most high return_high end world'
         ends end world' r =
             let cheap = r.cheap in
-            let joined : run open_storage p.data_start (1 + r.count) (There es c) ≡ run open_storage p.data_start r.count inside = laws.runs_join 1 r.count p.data_start (There es c) ∙ ap (run open_storage p.data_start r.count) entered.makes in
+            let joined : run open_storage p.data_start (1 + r.count) (There es c) ≡ run open_storage p.data_start r.count inside =
+            laws.runs_join 1 r.count p.data_start (There es c) ∙ ap (run open_storage p.data_start r.count) entered.makes in
             record {
               count = 1 + r.count;
               stop = r.stop;
               stop_is = r.stop_is;
               ended = subst (λ u. EndedIn u code r.stop world') (sym joined) r.ended;
               bounds = laws.bounds_join 0 high 0 return_high 1 r.count p.data_start (There es c) entered.bounds
-                  (subst (BeforeEach (StaysWithin 0 high 0 return_high) p.data_start r.count) (sym entered.makes) (wider laws p.data_start 0 (length c + peak) 0 (length (places_below under) + back - 1) high return_high r.count inside room within r.bounds));
-              at_end = subst (StaysWithin 0 high 0 return_high) (sym joined) (narrower laws p.data_start 0 (length c + peak) 0 (length (places_below under) + back - 1) high return_high (run open_storage p.data_start r.count inside) room within r.at_end);
+                  (subst (BeforeEach (StaysWithin 0 high 0 return_high) p.data_start r.count) (sym entered.makes)
+                  (wider laws p.data_start 0 (length c + peak) 0 (length (places_below under) + back - 1) high return_high r.count inside room within
+                  r.bounds));
+              at_end =
+                  subst (StaysWithin 0 high 0 return_high) (sym joined)
+                  (narrower laws p.data_start 0 (length c + peak) 0 (length (places_below under) + back - 1) high return_high
+                  (run open_storage p.data_start r.count inside) room within r.at_end);
               cheap = omega arith;
             }
 
         replied : (o : Reply (List ℕ)) →
-            ((c' : List ℕ) (world' : World) → Returned p.data_start code inside price (length c + peak) (length (places_below under) + back - 1) under c' world' → Comes laws p code place size (There es c) most now high return_high (record { work = w; entries = es; callers = fs; cells = c'; world = world' })) →
+            ((c' : List ℕ) (world' : World) →
+            Returned p.data_start code inside price (length c + peak) (length (places_below under) + back - 1) under c' world' →
+            Comes laws p code place size (There es c) most now high return_high
+            (record { work = w; entries = es; callers = fs; cells = c'; world = world' })) →
             Answers p.data_start code inside price (length c + peak) (length (places_below under) + back - 1) under o → Follows laws p code place size (There es c) most now high return_high (on_cells o (here w es c))
         replied (Gives c' world') then r = then c' world' r
         replied (Stops Underflow world') then r = tt
@@ -132,7 +145,8 @@ module _ (laws : Laws) (p : SourceProgram) (code : List ℕ) (place : ℕ → �
         replied (Stops (Outside address) world') then r = ends (Outside address) world' r
 
     -- a call leads into a routine, and its return back to behind the call
-    module _ (at price most peak back : ℕ) (w : List Work) (es : List Entry) (c : List ℕ) (holds : HoldsInstruction code pc (CallTo at)) (some : 1 ≤ back) (dear : price ≤ most) (room : length c + peak ≤ high) (returns_room : length (return_places es base) + back ≤ return_high) where
+    module _ (at price most peak back : ℕ) (w : List Work) (es : List Entry) (c : List ℕ) (holds : HoldsInstruction code pc (CallTo at)) (some : 1 ≤ back)
+        (dear : price ≤ most) (room : length c + peak ≤ high) (returns_room : length (return_places es base) + back ≤ return_high) where
       abbrev pub under_call : List Entry
       under_call = Cell (2 * following pc) ∷ whole es
 
@@ -142,12 +156,16 @@ module _ (laws : Laws) (p : SourceProgram) (code : List ℕ) (place : ℕ → �
       called : Runs p.data_start high return_high 1 (There es c) (standing_at_depths code at c (places_below under_call) data_above (rest return_above) world)
       called =
           subst (λ ps. Runs p.data_start high return_high 1 (There es c) (standing_at_depths code at c ps data_above (rest return_above) world)) (sym same_call)
-          (runs_one laws p.data_start (length c) (length (return_places es base)) high return_high (There es c) (standing_at_depths code at c (Some (2 * following pc) ∷ return_places es base) data_above (rest return_above) world) (omega arith) (omega arith) (laws.calls p.data_start at pc code c (return_places es base) data_above return_above world holds))
+          (runs_one laws p.data_start (length c) (length (return_places es base)) high return_high (There es c)
+          (standing_at_depths code at c (Some (2 * following pc) ∷ return_places es base) data_above (rest return_above) world) (omega arith) (omega arith)
+          (laws.calls p.data_start at pc code c (return_places es base) data_above return_above world holds))
 
       within : length (places_below under_call) + back - 1 ≤ return_high
       within = omega (arith, ap length same_call)
 
-      pub back_here : (c' : List ℕ) (world' : World) → (r : Returned p.data_start code (standing_at_depths code at c (places_below under_call) data_above (rest return_above) world) price (length c + peak) (length (places_below under_call) + back - 1) under_call c' world') →
+      pub back_here : (c' : List ℕ) (world' : World) →
+          (r : Returned p.data_start code (standing_at_depths code at c (places_below under_call) data_above (rest return_above) world) price (length c + peak)
+          (length (places_below under_call) + back - 1) under_call c' world') →
           Runs p.data_start high return_high (1 + r.count + 1) (There es c) (standing_at_depths code (following pc) c' (return_places es base) r.above (Some (2 * following pc) ∷ r.above') world')
       back_here c' world' r =
           let few = r.few in
@@ -155,22 +173,35 @@ module _ (laws : Laws) (p : SourceProgram) (code : List ℕ) (place : ℕ → �
           let there = standing_at_depths code (following pc) c' (return_places es base) r.above (Some (2 * following pc) ∷ r.above') world' in
           let leads = laws.returns p.data_start (2 * following pc) r.to code c' (return_places es base) r.above r.above' world' r.returns in
           let returned : Runs p.data_start high return_high 1 middle there =
-          subst (λ q. Runs p.data_start high return_high 1 (standing_at_depths code r.to c' (Some (2 * following pc) ∷ return_places es base) r.above r.above' world') (standing_at_depths code q c' (return_places es base) r.above (Some (2 * following pc) ∷ r.above') world')) (back_to pc)
-          (runs_one laws p.data_start (length c') (suc (length (return_places es base))) high return_high middle (standing_at_depths code (2 * following pc / 2 % 0x2000) c' (return_places es base) r.above (Some (2 * following pc) ∷ r.above') world') (omega arith) (omega arith) leads) in
+          subst
+          (λ q.
+          Runs p.data_start high return_high 1
+          (standing_at_depths code r.to c' (Some (2 * following pc) ∷ return_places es base) r.above r.above' world')
+          (standing_at_depths code q c' (return_places es base) r.above (Some (2 * following pc) ∷ r.above') world')) (back_to pc)
+          (runs_one laws p.data_start (length c') (suc (length (return_places es base))) high return_high middle
+          (standing_at_depths code (2 * following pc / 2 % 0x2000) c' (return_places es base) r.above (Some (2 * following pc) ∷ r.above') world')
+          (omega arith) (omega arith) leads) in
           let inside' : Runs p.data_start high return_high (1 + r.count) (There es c) middle =
-          subst (λ ps. Runs p.data_start high return_high (1 + r.count) (There es c) (standing_at_depths code r.to c' ps r.above r.above' world')) same_call (through at price most peak back w es c dear room under_call (rest return_above) called within c' world' r) in
+          subst (λ ps. Runs p.data_start high return_high (1 + r.count) (There es c) (standing_at_depths code r.to c' ps r.above r.above' world')) same_call
+          (through at price most peak back w es c dear room under_call (rest return_above) called within c' world' r) in
           runs_then laws p.data_start high return_high (1 + r.count) 1 (There es c) middle there inside' returned
 
-      pub ends_called : (end : End) (world' : World) → Stopped p.data_start code (standing_at_depths code at c (places_below under_call) data_above (rest return_above) world) price (length c + peak) (length (places_below under_call) + back - 1) end world' → Halts laws p code place size (There es c) most high return_high end world'
+      pub ends_called : (end : End) (world' : World) →
+          Stopped p.data_start code (standing_at_depths code at c (places_below under_call) data_above (rest return_above) world) price (length c + peak)
+          (length (places_below under_call) + back - 1) end world' → Halts laws p code place size (There es c) most high return_high end world'
       ends_called end world' r = ends at price most peak back w es c dear room under_call (rest return_above) called within end world' r
 
       comes_back : ends_body w ≡ false → Stands code place p out (following pc) w → Loops code place p out w → AreEntries es → (o : Reply (List ℕ)) →
-          Answers p.data_start code (standing_at_depths code at c (places_below under_call) data_above (rest return_above) world) price (length c + peak) (length (places_below under_call) + back - 1) under_call o → Follows laws p code place size (There es c) most now high return_high (on_cells o (here w es c))
+          Answers p.data_start code (standing_at_depths code at c (places_below under_call) data_above (rest return_above) world) price (length c + peak)
+          (length (places_below under_call) + back - 1) under_call o →
+          Follows laws p code place size (There es c) most now high return_high (on_cells o (here w es c))
       comes_back e s l fe o answers =
           replied at price most peak back w es c dear room under_call (rest return_above) called within o
           (λ c' world' r.
           let cheap = r.cheap in
-          comes laws p code place size (There es c) (1 + r.count + 1) (following pc) most now high return_high out (record { work = w; entries = es; callers = fs; cells = c'; world = world' }) base r.above (Some (2 * following pc) ∷ r.above') (omega arith) (omega (arith, cheap)) due
+          comes laws p code place size (There es c) (1 + r.count + 1) (following pc) most now high return_high out
+          (record { work = w; entries = es; callers = fs; cells = c'; world = world' }) base r.above (Some (2 * following pc) ∷ r.above') (omega arith)
+          (omega (arith, cheap)) due
           (back_here c' world' r)
           (record { stands = s; loops = l; frames = frames; cells = r.cells; entries = fe; world = r.world_is; starts = r.starts }))
           answers
@@ -178,30 +209,41 @@ module _ (laws : Laws) (p : SourceProgram) (code : List ℕ) (place : ℕ → �
     -- what code at a place answers, over any entries
     abbrev pub Answering : ℕ → ℕ → ℕ → ℕ → List ℕ → Reply (List ℕ) → Type 0
     Answering at price peak back c o =
-        (under : List Entry) (above' : List (Option ℕ)) → AreEntries under → Answers p.data_start code (standing_at_depths code at c (places_below under) data_above above' world) price (length c + peak) (length (places_below under) + back - 1) under o
+        (under : List Entry) (above' : List (Option ℕ)) → AreEntries under →
+        Answers p.data_start code (standing_at_depths code at c (places_below under) data_above above' world) price (length c + peak)
+        (length (places_below under) + back - 1) under o
 
-    pub answered : (tail : Bool) (at price most peak back : ℕ) (w : List Work) (es : List Entry) (c : List ℕ) (o : Reply (List ℕ)) → ends_body w ≡ tail → CallStands code place p tail pc at (Stands code place p out (following pc) w) → Loops code place p out w → ahead w ≤ p.source_tokens → AreEntries es →
-        1 ≤ back → price ≤ most → length c + peak ≤ high → length (return_places es base) + back ≤ return_high → Answering at price peak back c o → Follows laws p code place size (There es c) most now high return_high (on_cells o (here w es c))
+    pub answered : (tail : Bool) (at price most peak back : ℕ) (w : List Work) (es : List Entry) (c : List ℕ) (o : Reply (List ℕ)) → ends_body w ≡ tail →
+        CallStands code place p tail pc at (Stands code place p out (following pc) w) → Loops code place p out w → ahead w ≤ p.source_tokens → AreEntries es →
+        1 ≤ back → price ≤ most → length c + peak ≤ high → length (return_places es base) + back ≤ return_high → Answering at price peak back c o →
+        Follows laws p code place size (There es c) most now high return_high (on_cells o (here w es c))
     -- in tail position the machine jumps to the routine, whose return is that of the body
     answered true at price most peak back w es c o e holds l few fe some dear room returns_room does =
         let places = same_whole es in
         let height = ap length places in
         let jumped : Runs p.data_start high return_high 1 (There es c) (standing_at_depths code at c (places_below (whole es)) data_above return_above world) =
         subst (λ ps. Runs p.data_start high return_high 1 (There es c) (standing_at_depths code at c ps data_above return_above world)) (sym places)
-        (runs_one laws p.data_start (length c) (length (return_places es base)) high return_high (There es c) (standing_at_depths code at c (return_places es base) data_above return_above world) (omega arith) (omega arith) (laws.jumps p.data_start at pc code c (return_places es base) data_above return_above world holds)) in
+        (runs_one laws p.data_start (length c) (length (return_places es base)) high return_high (There es c)
+        (standing_at_depths code at c (return_places es base) data_above return_above world) (omega arith) (omega arith)
+        (laws.jumps p.data_start at pc code c (return_places es base) data_above return_above world holds)) in
         replied at price most peak back w es c dear room (whole es) return_above jumped (omega (arith, height)) o
         (λ c' world' r.
         let cheap = r.cheap in
         comes laws p code place size (There es c) (1 + r.count) r.to most now high return_high out (record { work = w; entries = es; callers = fs; cells = c'; world = world' }) base r.above r.above' (omega arith) (omega (arith, cheap)) due
-        (subst (λ ps. Runs p.data_start high return_high (1 + r.count) (There es c) (standing_at_depths code r.to c' ps r.above r.above' world')) places (through at price most peak back w es c dear room (whole es) return_above jumped (omega (arith, height)) c' world' r))
+        (subst (λ ps. Runs p.data_start high return_high (1 + r.count) (There es c) (standing_at_depths code r.to c' ps r.above r.above' world')) places
+        (through at price most peak back w es c dear room (whole es) return_above jumped (omega (arith, height)) c' world' r))
         (record { stands = ends_at_return code place p out r.to w e few r.returns; loops = l; frames = frames; cells = r.cells; entries = fe; world = r.world_is; starts = r.starts }))
         (does (whole es) return_above (whole_are es fe))
     answered false at price most peak back w es c o e holds l few fe some dear room returns_room does =
         comes_back at price most peak back w es c holds.0 some dear room returns_room e holds.1 l fe o (does (Cell (2 * following pc) ∷ whole es) (rest return_above) (low_address pc, whole_are es fe))
 
     -- a library word is followed
-    pub library_follows : (tail : Bool) (word : Word) (at : ℕ) (w : List Work) (es : List Entry) (c : List ℕ) → ends_body w ≡ tail → CallStands code place p tail pc at (Stands code place p out (following pc) w) → IsRoutine p.data_start code word at → Loops code place p out w → 1 + ahead w + unfinished fs ≤ now → ahead w ≤ p.source_tokens →
-        AreEntries es → AreCells c → length c + (entry_of word).peak ≤ high → length (return_places es base) + (entry_of word).back ≤ return_high → Follows laws p code place size (There es c) (word_price word c world) now high return_high (on_cells (meaning word c world) (here w es c))
+    pub library_follows : (tail : Bool) (word : Word) (at : ℕ) (w : List Work) (es : List Entry) (c : List ℕ) → ends_body w ≡ tail →
+        CallStands code place p tail pc at (Stands code place p out (following pc) w) → IsRoutine p.data_start code word at → Loops code place p out w →
+        1 + ahead w + unfinished fs ≤ now → ahead w ≤ p.source_tokens →
+        AreEntries es → AreCells c → length c + (entry_of word).peak ≤ high → length (return_places es base) + (entry_of word).back ≤ return_high →
+        Follows laws p code place size (There es c) (word_price word c world) now high return_high (on_cells (meaning word c world) (here w es c))
     library_follows tail word at w es c e holds routine l n few fe fc room back =
-        answered tail at (routine_price word c world) (word_price word c world) (entry_of word).peak (entry_of word).back w es c (meaning word c world) e holds l few fe (routine_back word routine.number routine.is_library) (routine_cheap word c world) room back
+        answered tail at (routine_price word c world) (word_price word c world) (entry_of word).peak (entry_of word).back w es c (meaning word c world) e holds
+        l few fe (routine_back word routine.number routine.is_library) (routine_cheap word c world) room back
         (λ under above' own. routine.does under c data_above above' world own fc fits starts)

@@ -224,24 +224,40 @@ library_few CFetch number [] w is = tt
 library_few CStore number (a ∷ x ∷ c) w is = few_then (length (a ∷ x ∷ c) + (entry_of CStore).peak) (store_byte a x w) (λ u w. Gives c w) (λ u w. omega arith)
 library_few CStore number [] w is = tt
 library_few CStore number (a ∷ []) w is = tt
-library_few PlusStore number (a ∷ n ∷ c) w is = few_then (length (a ∷ n ∷ c) + (entry_of PlusStore).peak) (fetch a w) (λ x w. store a (sum_of x n) w ▸ λ _. Gives c) (λ x w. few_then (length (a ∷ n ∷ c) + (entry_of PlusStore).peak) (store a (sum_of x n) w) (λ u w. Gives c w) (λ u w. omega arith))
+library_few PlusStore number (a ∷ n ∷ c) w is =
+    few_then (length (a ∷ n ∷ c) + (entry_of PlusStore).peak) (fetch a w) (λ x w. store a (sum_of x n) w ▸ λ _. Gives c)
+    (λ x w. few_then (length (a ∷ n ∷ c) + (entry_of PlusStore).peak) (store a (sum_of x n) w) (λ u w. Gives c w) (λ u w. omega arith))
 library_few PlusStore number [] w is = tt
 library_few PlusStore number (a ∷ []) w is = tt
-library_few TwoFetch number (a ∷ c) w is = few_then (length (a ∷ c) + (entry_of TwoFetch).peak) (fetch (sum_of a 2) w) (λ x w. fetch a w ▸ λ y. Gives (y ∷ x ∷ c)) (λ x w. few_then (length (a ∷ c) + (entry_of TwoFetch).peak) (fetch a w) (λ y w. Gives (y ∷ x ∷ c) w) (λ y w. omega arith))
+library_few TwoFetch number (a ∷ c) w is =
+    few_then (length (a ∷ c) + (entry_of TwoFetch).peak) (fetch (sum_of a 2) w) (λ x w. fetch a w ▸ λ y. Gives (y ∷ x ∷ c))
+    (λ x w. few_then (length (a ∷ c) + (entry_of TwoFetch).peak) (fetch a w) (λ y w. Gives (y ∷ x ∷ c) w) (λ y w. omega arith))
 library_few TwoFetch number [] w is = tt
-library_few TwoStore number (a ∷ y ∷ x ∷ c) w is = few_then (length (a ∷ y ∷ x ∷ c) + (entry_of TwoStore).peak) (store a y w) (λ u w. store (sum_of a 2) x w ▸ λ _. Gives c) (λ u w. few_then (length (a ∷ y ∷ x ∷ c) + (entry_of TwoStore).peak) (store (sum_of a 2) x w) (λ u w. Gives c w) (λ u w. omega arith))
+library_few TwoStore number (a ∷ y ∷ x ∷ c) w is =
+    few_then (length (a ∷ y ∷ x ∷ c) + (entry_of TwoStore).peak) (store a y w) (λ u w. store (sum_of a 2) x w ▸ λ _. Gives c)
+    (λ u w. few_then (length (a ∷ y ∷ x ∷ c) + (entry_of TwoStore).peak) (store (sum_of a 2) x w) (λ u w. Gives c w) (λ u w. omega arith))
 library_few TwoStore number [] w is = tt
 library_few TwoStore number (a ∷ []) w is = tt
 library_few TwoStore number (a ∷ b ∷ []) w is = tt
 library_few Count number (a ∷ c) w is = few_then (length (a ∷ c) + (entry_of Count).peak) (fetch_byte a w) (λ x w. Gives (x ∷ sum_of a 1 ∷ c) w) (λ x w. omega arith)
 library_few Count number [] w is = tt
-library_few Comma number (x ∷ c) w is = few_then (length (x ∷ c) + (entry_of Comma).peak) (here w) (λ h w. store h x w ▸ λ _ w. grow_here 2 w ▸ λ _. Gives c) (λ h w. few_then (length (x ∷ c) + (entry_of Comma).peak) (store h x w) (λ u w. grow_here 2 w ▸ λ _. Gives c) (λ u w. few_then (length (x ∷ c) + (entry_of Comma).peak) (grow_here 2 w) (λ u w. Gives c w) (λ u w. omega arith)))
+library_few Comma number (x ∷ c) w is =
+    few_then (length (x ∷ c) + (entry_of Comma).peak) (here w) (λ h w. store h x w ▸ λ _ w. grow_here 2 w ▸ λ _. Gives c)
+    (λ h w.
+    few_then (length (x ∷ c) + (entry_of Comma).peak) (store h x w) (λ u w. grow_here 2 w ▸ λ _. Gives c)
+    (λ u w. few_then (length (x ∷ c) + (entry_of Comma).peak) (grow_here 2 w) (λ u w. Gives c w) (λ u w. omega arith)))
 library_few Comma number [] w is = tt
-library_few CComma number (x ∷ c) w is = few_then (length (x ∷ c) + (entry_of CComma).peak) (here w) (λ h w. store_byte h x w ▸ λ _ w. grow_here 1 w ▸ λ _. Gives c) (λ h w. few_then (length (x ∷ c) + (entry_of CComma).peak) (store_byte h x w) (λ u w. grow_here 1 w ▸ λ _. Gives c) (λ u w. few_then (length (x ∷ c) + (entry_of CComma).peak) (grow_here 1 w) (λ u w. Gives c w) (λ u w. omega arith)))
+library_few CComma number (x ∷ c) w is =
+    few_then (length (x ∷ c) + (entry_of CComma).peak) (here w) (λ h w. store_byte h x w ▸ λ _ w. grow_here 1 w ▸ λ _. Gives c)
+    (λ h w.
+    few_then (length (x ∷ c) + (entry_of CComma).peak) (store_byte h x w) (λ u w. grow_here 1 w ▸ λ _. Gives c)
+    (λ u w. few_then (length (x ∷ c) + (entry_of CComma).peak) (grow_here 1 w) (λ u w. Gives c w) (λ u w. omega arith)))
 library_few CComma number [] w is = tt
 library_few Allot number (n ∷ c) w is = few_then (length (n ∷ c) + (entry_of Allot).peak) (grow_here n w) (λ u w. Gives c w) (λ u w. omega arith)
 library_few Allot number [] w is = tt
-library_few Align number c w is = few_then (length c + (entry_of Align).peak) (here w) (λ h w. store (w.data_start + 4) (even (sum_of h 1)) w ▸ λ _. Gives c) (λ h w. few_then (length c + (entry_of Align).peak) (store (w.data_start + 4) (even (sum_of h 1)) w) (λ u w. Gives c w) (λ u w. omega arith))
+library_few Align number c w is =
+    few_then (length c + (entry_of Align).peak) (here w) (λ h w. store (w.data_start + 4) (even (sum_of h 1)) w ▸ λ _. Gives c)
+    (λ h w. few_then (length c + (entry_of Align).peak) (store (w.data_start + 4) (even (sum_of h 1)) w) (λ u w. Gives c w) (λ u w. omega arith))
 library_few UMStar number (y ∷ x ∷ c) w is = omega arith
 library_few UMStar number [] w is = tt
 library_few UMStar number (a ∷ []) w is = tt
@@ -314,7 +330,11 @@ library_few Move number (a ∷ b ∷ []) w is = tt
 library_few Accept number (u ∷ a ∷ c) w is = few_then (length (u ∷ a ∷ c) + (entry_of Accept).peak) (accept u a 0 w) (λ n w. Gives (n ∷ c) w) (λ n w. omega arith)
 library_few Accept number [] w is = tt
 library_few Accept number (a ∷ []) w is = tt
-library_few ToNumber number (u ∷ a ∷ h ∷ l ∷ c) w is = few_then (length (u ∷ a ∷ h ∷ l ∷ c) + (entry_of ToNumber).peak) (base w) (λ b w. number_from b u a (double l h) w ▸ λ r. Gives (r.2 ∷ r.1 ∷ put r.0 c)) (λ b w. few_then (length (u ∷ a ∷ h ∷ l ∷ c) + (entry_of ToNumber).peak) (number_from b u a (double l h) w) (λ r w. Gives (r.2 ∷ r.1 ∷ put r.0 c) w) (λ r w. omega arith))
+library_few ToNumber number (u ∷ a ∷ h ∷ l ∷ c) w is =
+    few_then (length (u ∷ a ∷ h ∷ l ∷ c) + (entry_of ToNumber).peak) (base w) (λ b w. number_from b u a (double l h) w ▸ λ r. Gives (r.2 ∷ r.1 ∷ put r.0 c))
+    (λ b w.
+    few_then (length (u ∷ a ∷ h ∷ l ∷ c) + (entry_of ToNumber).peak) (number_from b u a (double l h) w) (λ r w. Gives (r.2 ∷ r.1 ∷ put r.0 c) w)
+    (λ r w. omega arith))
 library_few ToNumber number [] w is = tt
 library_few ToNumber number (a ∷ []) w is = tt
 library_few ToNumber number (a ∷ b ∷ []) w is = tt

@@ -35,7 +35,8 @@ next_difference index limit step h k l = omega arith
 sum_turned : (x y : ℕ) → sum_of x y ≡ sum_of y x
 sum_turned x y = omega arith
 
-module _ (laws : Laws) (p : SourceProgram) (code : List ℕ) (place : ℕ → ℕ) (size : length code ≡ p.data_start / 2) (high return_high : ℕ) (fs : List Frame) (world : World) (fits : IsWorld world) (starts : world.data_start ≡ p.data_start) (base : List (Option ℕ)) where
+module _ (laws : Laws) (p : SourceProgram) (code : List ℕ) (place : ℕ → ℕ) (size : length code ≡ p.data_start / 2) (high return_high : ℕ) (fs : List Frame)
+    (world : World) (fits : IsWorld world) (starts : world.data_start ≡ p.data_start) (base : List (Option ℕ)) where
   abbrev pub with_cells : List Work → List Entry → List ℕ → State
   with_cells w es c = record { work = w; entries = es; callers = fs; cells = c; world = world }
 
@@ -43,26 +44,38 @@ module _ (laws : Laws) (p : SourceProgram) (code : List ℕ) (place : ℕ → �
   at pc es c data_above return_above = standing_as (with_cells [] es c) code pc base data_above return_above
 
   -- both cells of a loop are dropped: R> DROP R> DROP
-  drops : (out_at next x l : ℕ) (es : List Entry) (c : List ℕ) (data_above return_above : List (Option ℕ)) → StandIn code out_at out_cells next → AreEntries (Cell x ∷ Cell l ∷ es) → AreCells c → length c + 1 ≤ high → length (return_places (Cell x ∷ Cell l ∷ es) base) ≤ return_high →
+  drops : (out_at next x l : ℕ) (es : List Entry) (c : List ℕ) (data_above return_above : List (Option ℕ)) → StandIn code out_at out_cells next →
+      AreEntries (Cell x ∷ Cell l ∷ es) → AreCells c → length c + 1 ≤ high → length (return_places (Cell x ∷ Cell l ∷ es) base) ≤ return_high →
       (above : List (Option ℕ)) × (above' : List (Option ℕ)) × Runs p.data_start high return_high 4 (at out_at (Cell x ∷ Cell l ∷ es) c data_above return_above) (at next es c above above')
   drops out_at next x l es c data_above return_above stands fe fc room back =
-      phrase_runs p high return_high base laws code size (RFrom ∷ DropTop ∷ RFrom ∷ DropTop ∷ []) (with_cells [] (Cell x ∷ Cell l ∷ es) c) (with_cells [] es c) out_at next data_above return_above refl refl (grind arith) stands fc fe fits starts
+      phrase_runs p high return_high base laws code size (RFrom ∷ DropTop ∷ RFrom ∷ DropTop ∷ []) (with_cells [] (Cell x ∷ Cell l ∷ es) c) (with_cells [] es c)
+      out_at next data_above return_above refl refl (grind arith) stands fc fe fits starts
 
   -- DO: SWAP DUP >R INVERT + 1+ >R
-  enters : (pc body_at start limit : ℕ) (es : List Entry) (c : List ℕ) (data_above return_above : List (Option ℕ)) → StandIn code pc do_cells body_at → AreEntries es → AreCells (start ∷ limit ∷ c) → length c + 3 ≤ high → length (return_places es base) + 1 ≤ return_high →
-      (above : List (Option ℕ)) × (above' : List (Option ℕ)) × Runs p.data_start high return_high 8 (at pc es (start ∷ limit ∷ c) data_above return_above) (at body_at (Cell (sum_of (sum_of start (65535 - limit)) 1) ∷ Cell limit ∷ es) c above above')
+  enters : (pc body_at start limit : ℕ) (es : List Entry) (c : List ℕ) (data_above return_above : List (Option ℕ)) → StandIn code pc do_cells body_at →
+      AreEntries es → AreCells (start ∷ limit ∷ c) → length c + 3 ≤ high → length (return_places es base) + 1 ≤ return_high →
+      (above : List (Option ℕ)) × (above' : List (Option ℕ))
+      × Runs p.data_start high return_high 8 (at pc es (start ∷ limit ∷ c) data_above return_above)
+      (at body_at (Cell (sum_of (sum_of start (65535 - limit)) 1) ∷ Cell limit ∷ es) c above above')
   enters pc body_at start limit es c data_above return_above stands fe fc room back =
-      phrase_runs p high return_high base laws code size (Swap ∷ Dup ∷ ToR ∷ Invert ∷ Plus ∷ OnePlus ∷ ToR ∷ []) (with_cells [] es (start ∷ limit ∷ c)) (with_cells [] (Cell (sum_of (sum_of start (65535 - limit)) 1) ∷ Cell limit ∷ es) c) pc body_at data_above return_above refl refl (grind arith) stands fc fe fits starts
+      phrase_runs p high return_high base laws code size (Swap ∷ Dup ∷ ToR ∷ Invert ∷ Plus ∷ OnePlus ∷ ToR ∷ []) (with_cells [] es (start ∷ limit ∷ c))
+      (with_cells [] (Cell (sum_of (sum_of start (65535 - limit)) 1) ∷ Cell limit ∷ es) c) pc body_at data_above return_above refl refl (grind arith) stands
+      fc fe fits starts
 
   -- LOOP: R> 1+ DUP >R
-  adds_one : (pc test x l : ℕ) (es : List Entry) (c : List ℕ) (data_above return_above : List (Option ℕ)) → StandIn code pc loop_cells test → AreEntries (Cell x ∷ Cell l ∷ es) → AreCells c → length c + 2 ≤ high → length (return_places (Cell x ∷ Cell l ∷ es) base) ≤ return_high →
+  adds_one : (pc test x l : ℕ) (es : List Entry) (c : List ℕ) (data_above return_above : List (Option ℕ)) → StandIn code pc loop_cells test →
+      AreEntries (Cell x ∷ Cell l ∷ es) → AreCells c → length c + 2 ≤ high → length (return_places (Cell x ∷ Cell l ∷ es) base) ≤ return_high →
       (above : List (Option ℕ)) × (above' : List (Option ℕ)) × Runs p.data_start high return_high 5 (at pc (Cell x ∷ Cell l ∷ es) c data_above return_above) (at test (Cell (sum_of x 1) ∷ Cell l ∷ es) (sum_of x 1 ∷ c) above above')
   adds_one pc test x l es c data_above return_above stands fe fc room back =
-      phrase_runs p high return_high base laws code size (RFrom ∷ OnePlus ∷ Dup ∷ ToR ∷ []) (with_cells [] (Cell x ∷ Cell l ∷ es) c) (with_cells [] (Cell (sum_of x 1) ∷ Cell l ∷ es) (sum_of x 1 ∷ c)) pc test data_above return_above refl refl (grind arith) stands fc fe fits starts
+      phrase_runs p high return_high base laws code size (RFrom ∷ OnePlus ∷ Dup ∷ ToR ∷ []) (with_cells [] (Cell x ∷ Cell l ∷ es) c)
+      (with_cells [] (Cell (sum_of x 1) ∷ Cell l ∷ es) (sum_of x 1 ∷ c)) pc test data_above return_above refl refl (grind arith) stands fc fe fits starts
 
   -- +LOOP: R> OVER OVER XOR >R SWAP OVER + SWAP OVER XOR R> AND 0< SWAP >R
-  adds_step : (pc test x l step : ℕ) (es : List Entry) (c : List ℕ) (data_above return_above : List (Option ℕ)) → StandIn code pc plus_loop_cells test → AreEntries (Cell x ∷ Cell l ∷ es) → AreCells (step ∷ c) → length c + 4 ≤ high → length (return_places (Cell x ∷ Cell l ∷ es) base) ≤ return_high →
-      (above : List (Option ℕ)) × (above' : List (Option ℕ)) × Runs p.data_start high return_high 17 (at pc (Cell x ∷ Cell l ∷ es) (step ∷ c) data_above return_above) (at test (Cell (sum_of step x) ∷ Cell l ∷ es) (flag (int_lt (signed (signs x step)) (pos 0)) ∷ c) above above')
+  adds_step : (pc test x l step : ℕ) (es : List Entry) (c : List ℕ) (data_above return_above : List (Option ℕ)) → StandIn code pc plus_loop_cells test →
+      AreEntries (Cell x ∷ Cell l ∷ es) → AreCells (step ∷ c) → length c + 4 ≤ high → length (return_places (Cell x ∷ Cell l ∷ es) base) ≤ return_high →
+      (above : List (Option ℕ)) × (above' : List (Option ℕ))
+      × Runs p.data_start high return_high 17 (at pc (Cell x ∷ Cell l ∷ es) (step ∷ c) data_above return_above)
+      (at test (Cell (sum_of step x) ∷ Cell l ∷ es) (flag (int_lt (signed (signs x step)) (pos 0)) ∷ c) above above')
   adds_step pc test x l step es c data_above return_above stands fe fc room back =
       phrase_runs p high return_high base laws code size (RFrom ∷ Over ∷ Over ∷ Xor ∷ ToR ∷ Swap ∷ Over ∷ Plus ∷ Swap ∷ Over ∷ Xor ∷ RFrom ∷ And ∷ ZeroLess ∷ Swap ∷ ToR ∷ []) (with_cells [] (Cell x ∷ Cell l ∷ es) (step ∷ c))
       (with_cells [] (Cell (sum_of step x) ∷ Cell l ∷ es) (flag (int_lt (signed (signs x step)) (pos 0)) ∷ c)) pc test data_above return_above refl refl (grind arith) stands fc fe fits starts
@@ -71,19 +84,22 @@ module _ (laws : Laws) (p : SourceProgram) (code : List ℕ) (place : ℕ → �
   pub branches : (target test v : ℕ) (es : List Entry) (c : List ℕ) (data_above return_above : List (Option ℕ)) → v ≡ 0 → HoldsInstruction code test (Branch target) → length c + 1 ≤ high → length (return_places es base) ≤ return_high →
       Runs p.data_start high return_high 1 (at test es (v ∷ c) data_above return_above) (at target es c (top (data_places c) ∷ data_above) return_above)
   branches target test zero es c data_above return_above e holds room back =
-      runs_one laws p.data_start (suc (length c)) (length (return_places es base)) high return_high (at test es (0 ∷ c) data_above return_above) _ (omega arith) back (laws.branches p.data_start target test code c (return_places es base) data_above return_above world holds)
+      runs_one laws p.data_start (suc (length c)) (length (return_places es base)) high return_high (at test es (0 ∷ c) data_above return_above) _ (omega arith)
+      back (laws.branches p.data_start target test code c (return_places es base) data_above return_above world holds)
   branches target test (suc n) es c data_above return_above e holds room back = absurd (omega arith)
 
   pub passes : (target test v : ℕ) (es : List Entry) (c : List ℕ) (data_above return_above : List (Option ℕ)) → v ≢ 0 → HoldsInstruction code test (Branch target) → length c + 1 ≤ high → length (return_places es base) ≤ return_high →
       Runs p.data_start high return_high 1 (at test es (v ∷ c) data_above return_above) (at (following test) es c (top (data_places c) ∷ data_above) return_above)
   passes target test zero es c data_above return_above e holds room back = absurd (e refl)
   passes target test (suc n) es c data_above return_above e holds room back =
-      runs_one laws p.data_start (suc (length c)) (length (return_places es base)) high return_high (at test es (suc n ∷ c) data_above return_above) _ (omega arith) back (laws.passes p.data_start target test n code c (return_places es base) data_above return_above world holds)
+      runs_one laws p.data_start (suc (length c)) (length (return_places es base)) high return_high (at test es (suc n ∷ c) data_above return_above) _
+      (omega arith) back (laws.passes p.data_start target test n code c (return_places es base) data_above return_above world holds)
 
   pub jumps : (target pc : ℕ) (es : List Entry) (c : List ℕ) (data_above return_above : List (Option ℕ)) → HoldsInstruction code pc (Jump target) → length c ≤ high → length (return_places es base) ≤ return_high →
       Runs p.data_start high return_high 1 (at pc es c data_above return_above) (at target es c data_above return_above)
   jumps target pc es c data_above return_above holds room back =
-      runs_one laws p.data_start (length c) (length (return_places es base)) high return_high (at pc es c data_above return_above) _ room back (laws.jumps p.data_start target pc code c (return_places es base) data_above return_above world holds)
+      runs_one laws p.data_start (length c) (length (return_places es base)) high return_high (at pc es c data_above return_above) _ room back
+      (laws.jumps p.data_start target pc code c (return_places es base) data_above return_above world holds)
 
   -- what stands where the innermost loop is dropped
   pub record LoopEnd (out_at : ℕ) (w : List Work) : Type 0 where
@@ -112,7 +128,9 @@ module _ (laws : Laws) (p : SourceProgram) (code : List ℕ) (place : ℕ → �
   difference_small limit index = mod-lt (index + (65536 - limit)) (omega arith)
 
   module _ (pc now : ℕ) (data_above return_above : List (Option ℕ)) (frames : Frames code place p fs base) (due : unfinished fs ≤ now) where
-    pub do_follows : (out : Option ℕ) (body : Nodes) (plus : Bool) (w u : List Work) (es : List Entry) (c : List ℕ) → Placed code place p out pc (ends_body w) (Do body plus) (λ q. Stands code place p out q w) → Loops code place p out w → tokens_of body + 2 + ahead w ≤ p.source_tokens → AreEntries es → AreCells c →
+    pub do_follows : (out : Option ℕ) (body : Nodes) (plus : Bool) (w u : List Work) (es : List Entry) (c : List ℕ) →
+        Placed code place p out pc (ends_body w) (Do body plus) (λ q. Stands code place p out q w) → Loops code place p out w →
+        tokens_of body + 2 + ahead w ≤ p.source_tokens → AreEntries es → AreCells c →
         length c + 1 ≤ high → length (return_places es base) + 1 ≤ return_high → Follows laws p code place size (at pc es c data_above return_above) 8 now high return_high (loop_begins body plus w c (with_cells u es c))
     do_follows out body plus w u es [] h l n fe fc room back = tt
     do_follows out body plus w u es (x ∷ []) h l n fe fc room back = tt
@@ -120,7 +138,8 @@ module _ (laws : Laws) (p : SourceProgram) (code : List ℕ) (place : ℕ → �
         let g = enters pc h.0 start limit es c data_above return_above h.4 fe fc (omega arith) back in
         let mark : Stands code place p (Some h.2) h.1 (Turn body plus ∷ w) = (h.2, h.0, refl, h.5, h.6, omega arith) in
         let ends : Loops code place p (Some h.2) (Turn body plus ∷ w) = (h.2, out, h.3, refl, h.7, h.8, l) in
-        comes laws p code place size (at pc es (start ∷ limit ∷ c) data_above return_above) 8 h.0 8 now high return_high (Some h.2) (with_cells (before body (Turn body plus ∷ w)) (Loop limit start ∷ es) c) base g.0 g.1 (omega arith) (omega arith) due
+        comes laws p code place size (at pc es (start ∷ limit ∷ c) data_above return_above) 8 h.0 8 now high return_high (Some h.2)
+        (with_cells (before body (Turn body plus ∷ w)) (Loop limit start ∷ es) c) base g.0 g.1 (omega arith) (omega arith) due
         (subst (λ x. Runs p.data_start high return_high 8 (at pc es (start ∷ limit ∷ c) data_above return_above) (at h.0 (Cell x ∷ Cell limit ∷ es) c g.0 g.1)) (begun start limit fc.0 fc.1.0) g.2)
         (record {
           stands = stands_to code place p body (Some h.2) h.0 h.1 (Turn body plus ∷ w) h.5 mark (omega arith);
@@ -144,7 +163,8 @@ module _ (laws : Laws) (p : SourceProgram) (code : List ℕ) (place : ℕ → �
         (runs_then laws p.data_start high return_high 1 4 (at pc (Loop limit index ∷ es) c data_above return_above) (at out_at (Loop limit index ∷ es) c data_above return_above) (at end.next es c d.0 d.1) j d.2)
         (record { stands = end.stands; loops = end.loops; frames = frames; cells = fc; entries = fe.2; world = fits; starts = starts })
 
-    module _ (out : Option ℕ) (body : Nodes) (w u : List Work) (limit index : ℕ) (es : List Entry) (c : List ℕ) (fe : AreEntries (Loop limit index ∷ es)) (fc : AreCells c) (back : length (return_places (Loop limit index ∷ es) base) ≤ return_high) where
+    module _ (out : Option ℕ) (body : Nodes) (w u : List Work) (limit index : ℕ) (es : List Entry) (c : List ℕ) (fe : AreEntries (Loop limit index ∷ es))
+        (fc : AreCells c) (back : length (return_places (Loop limit index ∷ es) base) ≤ return_high) where
       abbrev difference : ℕ
       difference = difference_of index limit
 
@@ -174,7 +194,8 @@ module _ (laws : Laws) (p : SourceProgram) (code : List ℕ) (place : ℕ → �
           (record { stands = end.stands; loops = end.loops; frames = frames; cells = fc; entries = fe.2; world = fits; starts = starts })
 
       -- the body is done again
-      again : (plus : Bool) (price count x step : ℕ) (c' : List ℕ) (above above' : List (Option ℕ)) → 1 ≤ count → count ≤ price → x ≡ difference_of (sum_of index step) limit → (h : Stands code place p out pc (Turn body plus ∷ w)) → Loops code place p out (Turn body plus ∷ w) →
+      again : (plus : Bool) (price count x step : ℕ) (c' : List ℕ) (above above' : List (Option ℕ)) → 1 ≤ count → count ≤ price →
+          x ≡ difference_of (sum_of index step) limit → (h : Stands code place p out pc (Turn body plus ∷ w)) → Loops code place p out (Turn body plus ∷ w) →
           Runs p.data_start high return_high count (There c') (at h.1 (two_cells x) c above above') →
           Comes laws p code place size (There c') price now high return_high (with_cells (before body (Turn body plus ∷ w)) (Loop limit (sum_of index step) ∷ es) c)
       again plus price count x step c' above above' some cheap e h l runs =
@@ -216,7 +237,9 @@ module _ (laws : Laws) (p : SourceProgram) (code : List ℕ) (place : ℕ → �
           ⊎_elim (λ t. subst (Turned c 12 false 1) (sym t.1) (one_over h l room t.0)) (λ t. subst (Turned c 12 false 1) (sym t.1) (one_again h l room t.0)) (one_crosses difference (difference_small limit index))
 
       -- +LOOP, where the boundary is crossed, and where it is not
-      step_followed : (step : ℕ) (crossed : Bool) → step < 65536 → int_lt (signed (signs difference step)) (pos 0) ≡ crossed → Stands code place p out pc (Turn body true ∷ w) → Loops code place p out (Turn body true ∷ w) → length c + 4 ≤ high → Turned (step ∷ c) 24 true step crossed
+      step_followed : (step : ℕ) (crossed : Bool) → step < 65536 → int_lt (signed (signs difference step)) (pos 0) ≡ crossed →
+          Stands code place p out pc (Turn body true ∷ w) → Loops code place p out (Turn body true ∷ w) → length c + 4 ≤ high →
+          Turned (step ∷ c) 24 true step crossed
       step_followed step true small e h l room =
           let sum = sum_of step (difference_of index limit) in
           let a = adds_step pc h.4.0 difference limit step es c data_above return_above h.4.1 small_entries (small, fc) room back in
@@ -239,8 +262,10 @@ module _ (laws : Laws) (p : SourceProgram) (code : List ℕ) (place : ℕ → �
           subst (Turned (step ∷ c) 24 true step) (sym (signs_cross difference step (difference_small limit index) small)) (step_followed step (int_lt (signed (signs difference step)) (pos 0)) small refl h l room)
 
     -- the end of a turn
-    pub turn_follows : (out : Option ℕ) (body : Nodes) (plus : Bool) (w u : List Work) (es : List Entry) (c : List ℕ) → Stands code place p out pc (Turn body plus ∷ w) → Loops code place p out (Turn body plus ∷ w) → AreEntries es → AreCells c →
-        length c + peak_of fs (IsTurn body plus w) ≤ high → length (return_places es base) ≤ return_high → Follows laws p code place size (at pc es c data_above return_above) (turn_price plus) now high return_high (turn body plus w c (with_cells u es c))
+    pub turn_follows : (out : Option ℕ) (body : Nodes) (plus : Bool) (w u : List Work) (es : List Entry) (c : List ℕ) →
+        Stands code place p out pc (Turn body plus ∷ w) → Loops code place p out (Turn body plus ∷ w) → AreEntries es → AreCells c →
+        length c + peak_of fs (IsTurn body plus w) ≤ high → length (return_places es base) ≤ return_high →
+        Follows laws p code place size (at pc es c data_above return_above) (turn_price plus) now high return_high (turn body plus w c (with_cells u es c))
     turn_follows out body false w u [] c h l fe fc room back = tt
     turn_follows out body false w u (Cell x ∷ es) c h l fe fc room back = tt
     turn_follows out body false w u (Loop limit index ∷ es) c h l fe fc room back = one_turned out body w u limit index es c fe fc back h l room

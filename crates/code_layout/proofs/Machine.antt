@@ -54,7 +54,8 @@ module _ (laws : Laws) (data_start : ℕ) where
   narrower low high return_low return_high high' return_high' v h r within =
       (laws.bounds_widen low high return_low return_high 0 high' 0 return_high' 1 data_start v (omega arith) h (omega arith) r (within, tt)).0
 
-  pub wider : (low high return_low return_high high' return_high' n : ℕ) (v : OpenConfiguration) → high ≤ high' → return_high ≤ return_high' → BeforeEach (StaysWithin low high return_low return_high) data_start n v → BeforeEach (StaysWithin 0 high' 0 return_high') data_start n v
+  pub wider : (low high return_low return_high high' return_high' n : ℕ) (v : OpenConfiguration) → high ≤ high' → return_high ≤ return_high' →
+      BeforeEach (StaysWithin low high return_low return_high) data_start n v → BeforeEach (StaysWithin 0 high' 0 return_high') data_start n v
   wider low high return_low return_high high' return_high' n v h r before = laws.bounds_widen low high return_low return_high 0 high' 0 return_high' n data_start v (omega arith) h (omega arith) r before
 
   pub runs_then : (high return_high a b : ℕ) (from middle to : OpenConfiguration) → Runs data_start high return_high a from middle → Runs data_start high return_high b middle to → Runs data_start high return_high (a + b) from to

@@ -68,7 +68,16 @@ module _ (p : SourceProgram) (high return_high : ℕ) (base : List (Option ℕ))
         StandIn code pc (cells_from p.data_start word) next → AreCells s.cells → AreEntries s.entries → s.world.data_start ≡ p.data_start → IsReady word code pc next s
     word_ready word s pc next plain applies sound stands cells entries starts =
         let met = (laws.word_needs p word s.cells s.entries s plain).0 sound in
-        record { plain = plain; code_size = size ∙ ap (λ d. d / 2) (sym starts); in_code = subst (λ d. StandIn code pc (cells_from d word) next) (sym starts) stands; need = met.0; finds = met.1; cells = cells; entries = entries; applies = applies }
+        record {
+          plain = plain;
+          code_size = size ∙ ap (λ d. d / 2) (sym starts);
+          in_code = subst (λ d. StandIn code pc (cells_from d word) next) (sym starts) stands;
+          need = met.0;
+          finds = met.1;
+          cells = cells;
+          entries = entries;
+          applies = applies;
+        }
 
     -- before each instruction of a word both stacks are within its peak and its back
     pub word_bounded : (word : Word) (s : State) (pc next : ℕ) (data_above return_above : List (Option ℕ)) → IsReady word code pc next s → s.world.data_start ≡ p.data_start →
@@ -80,7 +89,12 @@ module _ (p : SourceProgram) (high return_high : ℕ) (base : List (Option ℕ))
         let return_low = length (return_places s.entries base) - return_need word in
         let return_most = length (return_places s.entries base) + (entry_of word).back in
         wider laws p.data_start low most return_low return_most high return_high (length (cells_of word)) (standing_as s code pc base data_above return_above) peak back
-        (subst (λ d. BeforeEach (StaysWithin (length s.cells - (entry_of word).need) (length s.cells + (entry_of word).peak) (length (return_places s.entries base) - return_need word) (length (return_places s.entries base) + (entry_of word).back)) d (length (cells_of word)) (standing_as s code pc base data_above return_above))
+        (subst
+        (λ d.
+        BeforeEach
+        (StaysWithin (length s.cells - (entry_of word).need) (length s.cells + (entry_of word).peak)
+        (length (return_places s.entries base) - return_need word) (length (return_places s.entries base) + (entry_of word).back)) d
+        (length (cells_of word)) (standing_as s code pc base data_above return_above))
         starts (laws.word_bounds word code pc next s base data_above return_above ready))
 
     -- a word comes to what it does
@@ -101,18 +115,26 @@ module _ (p : SourceProgram) (high return_high : ℕ) (base : List (Option ℕ))
         )
     phrase_runs (word ∷ words) s t pc next data_above return_above free leads enough stands cells entries world starts =
         first_runs (word_step p word s.cells s.entries s) refl leads enough.2
-        (λ m q data_above return_above leads enough stands cells entries world starts. phrase_runs words m t q next data_above return_above (both (is_free word) (list_all is_free words) free).1 leads enough stands cells entries world starts)
+        (λ m q data_above return_above leads enough stands cells entries world starts.
+        phrase_runs words m t q next data_above return_above (both (is_free word) (list_all is_free words) free).1 leads enough stands cells entries
+        world starts)
       where
         first_runs : (o : Outcome) → word_step p word s.cells s.entries s ≡ o → and_then o (outcome words) ≡ Goes t → on_state o (CellsSuffice words) →
-            ((m : State) (q : ℕ) (data_above return_above : List (Option ℕ)) → outcome words m ≡ Goes t → CellsSuffice words m → StandIn code q (phrase words) next → AreCells m.cells → AreEntries m.entries → IsWorld m.world → m.world.data_start ≡ p.data_start →
+            ((m : State) (q : ℕ) (data_above return_above : List (Option ℕ)) → outcome words m ≡ Goes t → CellsSuffice words m →
+            StandIn code q (phrase words) next → AreCells m.cells → AreEntries m.entries → IsWorld m.world → m.world.data_start ≡ p.data_start →
             (above : List (Option ℕ)) × (above' : List (Option ℕ)) × Runs p.data_start high return_high (length (phrase words)) (standing_as m code q base data_above return_above) (standing_as t code next base above above')) →
-            (above : List (Option ℕ)) × (above' : List (Option ℕ)) × Runs p.data_start high return_high (length (cells_of word ++ phrase words)) (standing_as s code pc base data_above return_above) (standing_as t code next base above above')
+            (above : List (Option ℕ)) × (above' : List (Option ℕ))
+            × Runs p.data_start high return_high (length (cells_of word ++ phrase words)) (standing_as s code pc base data_above return_above)
+            (standing_as t code next base above above')
         first_runs (Ends end world) e leads more later = absurd (cc)
         first_runs (Goes m) e leads more later =
             let split = stand_split code (cells_of word) (phrase words) pc next stands in
             let v = standing_as s code pc base data_above return_above in
             let applies = free_applies word s.cells (both (is_free word) (list_all is_free words) free).0 in
-            let ready = word_ready word s pc split.0 applies.0 applies.1 (ap lacks e) (subst (λ cells. StandIn code pc cells split.0) (free_cells p.data_start word (both (is_free word) (list_all is_free words) free).0) split.1) cells entries starts in
+            let ready =
+            word_ready word s pc split.0 applies.0 applies.1 (ap lacks e)
+            (subst (λ cells. StandIn code pc cells split.0) (free_cells p.data_start word (both (is_free word) (list_all is_free words) free).0)
+            split.1) cells entries starts in
             let come = word_comes word s pc split.0 data_above return_above (Goes m) ready starts e in
             let bounds = word_bounded word s pc split.0 data_above return_above ready starts enough.0 enough.1 in
             let kept = laws.word_cells p word s m applies.0 cells entries world e in
@@ -120,5 +142,7 @@ module _ (p : SourceProgram) (high return_high : ℕ) (base : List (Option ℕ))
               rest.0,
               rest.1,
               subst (λ n. Runs p.data_start high return_high n v (standing_as t code next base rest.0 rest.1)) (sym (length-append (cells_of word) (phrase words)))
-                  (runs_then laws p.data_start high return_high (length (cells_of word)) (length (phrase words)) v (standing_as m code split.0 base come.0 come.1) (standing_as t code next base rest.0 rest.1) (record { makes = come.2; bounds = bounds }) rest.2),
+                  (runs_then laws p.data_start high return_high (length (cells_of word)) (length (phrase words)) v
+                  (standing_as m code split.0 base come.0 come.1) (standing_as t code next base rest.0 rest.1) (record { makes = come.2; bounds = bounds })
+                  rest.2),
             )

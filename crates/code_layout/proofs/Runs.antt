@@ -89,7 +89,8 @@ module _ (laws : Laws) (p : SourceProgram) (code : List ℕ) (place : ℕ → �
   }
 
   -- the last of some steps
-  ends_at : (k total cost now : ℕ) (s : State) (v : OpenConfiguration) (high return_high : ℕ) (end : End) (world : World) → steps p k s ≡ Ends end world → spent p total k s ≡ total + cost → Halts laws p code place size v cost high return_high end world →
+  ends_at : (k total cost now : ℕ) (s : State) (v : OpenConfiguration) (high return_high : ℕ) (end : End) (world : World) → steps p k s ≡ Ends end world →
+      spent p total k s ≡ total + cost → Halts laws p code place size v cost high return_high end world →
       ((high' return_high' : ℕ) → StepsFit p high' return_high' k s → (high ≤ high') × (return_high ≤ return_high')) → Reaches k total now s v
   ends_at k total cost now s v high return_high end world over price h fits =
       let paid = h.cheap in
@@ -152,7 +153,9 @@ module _ (laws : Laws) (p : SourceProgram) (code : List ℕ) (place : ℕ → �
     fits k high' return_high' fit = let f = fit 0 s (omega arith) (no_steps p s) in (f.0, (let g = f.1 in omega (arith, g, height_is out pc s base m)))
 
     -- a step that the machine follows
-    followed : (k : ℕ) → lacks (steps p (suc k) s) ≡ false → DepthsFit p (suc k) s → RunsOf k → (o : Outcome) → step p s ≡ o → Follows laws p code place size from (step_price s) (ahead s.work + unfinished s.callers) high return_high o → Reaches (suc k) total (ahead s.work + unfinished s.callers) s from
+    followed : (k : ℕ) → lacks (steps p (suc k) s) ≡ false → DepthsFit p (suc k) s → RunsOf k → (o : Outcome) → step p s ≡ o →
+        Follows laws p code place size from (step_price s) (ahead s.work + unfinished s.callers) high return_high o →
+        Reaches (suc k) total (ahead s.work + unfinished s.callers) s from
     followed k sound depths later (Goes after) e c =
         let near = c.progress in
         goes_on 1 k (suc k) total (step_price s) (ahead s.work + unfinished s.callers) (ahead s.work + unfinished s.callers) s after from high return_high (omega arith) (steps_on p s k total after e) (spent_on p s k total after e) c near
@@ -165,7 +168,8 @@ module _ (laws : Laws) (p : SourceProgram) (code : List ℕ) (place : ℕ → �
     followed k sound depths later (Ends InputEnded world) e c =
         ends_at (suc k) total (step_price s) (ahead s.work + unfinished s.callers) s from high return_high InputEnded world (steps_end p s k total InputEnded world e) (spent_end p s k total InputEnded world e) c (fits k)
     followed k sound depths later (Ends (Outside address) world) e c =
-        ends_at (suc k) total (step_price s) (ahead s.work + unfinished s.callers) s from high return_high (Outside address) world (steps_end p s k total (Outside address) world e) (spent_end p s k total (Outside address) world e) c (fits k)
+        ends_at (suc k) total (step_price s) (ahead s.work + unfinished s.callers) s from high return_high (Outside address) world
+        (steps_end p s k total (Outside address) world e) (spent_end p s k total (Outside address) world e) c (fits k)
 
     -- EXECUTE, and then the item of its token
     module _ (x : Executes laws p code place size all from (step_price s) (ahead s.work + unfinished s.callers) high return_high (first_work s.work) s.cells s.entries base (step p s)) where
@@ -213,7 +217,8 @@ module _ (laws : Laws) (p : SourceProgram) (code : List ℕ) (place : ℕ → �
         runs_before = record { makes = x.runs.makes; bounds = wider laws p.data_start 0 high 0 return_high top return_top x.count from peak back x.runs.bounds }
 
         both_come : (after : State) → Comes laws p code place size x.there (step_price x.after + 1) (p.source_tokens + 1 + unfinished (record { work = x.then_work; entries = s.entries } ∷ x.after.callers)) top return_top after →
-            (c : Comes laws p code place size from (step_price s + step_price x.after) (ahead s.work + unfinished s.callers) top return_top after) × (2 + ahead after.work + unfinished after.callers ≤ ahead s.work + unfinished s.callers + c.count * (p.source_tokens + 1))
+            (c : Comes laws p code place size from (step_price s + step_price x.after) (ahead s.work + unfinished s.callers) top return_top after)
+            × (2 + ahead after.work + unfinished after.callers ≤ ahead s.work + unfinished s.callers + c.count * (p.source_tokens + 1))
         both_come after c =
             let cheap = x.cheap in
             let paid = c.cheap in
@@ -244,12 +249,17 @@ module _ (laws : Laws) (p : SourceProgram) (code : List ℕ) (place : ℕ → �
             (halts_after laws p code place size from x.there x.count (step_price x.after + 1) (step_price s + step_price x.after) top return_top end world (omega (arith, cheap)) runs_before h) fit
 
         both_followed : (k : ℕ) → lacks (steps p (suc (suc k)) s) ≡ false → DepthsFit p (suc (suc k)) s → RunsOf k → ((high' return_high' : ℕ) → StepsFit p high' return_high' (suc (suc k)) s → (top ≤ high') × (return_top ≤ return_high')) →
-            (o : Outcome) → step p x.after ≡ o → Follows laws p code place size x.there (step_price x.after + 1) (p.source_tokens + 1 + unfinished (record { work = x.then_work; entries = s.entries } ∷ x.after.callers)) top return_top o → Reaches (suc (suc k)) total (ahead s.work + unfinished s.callers) s from
+            (o : Outcome) → step p x.after ≡ o →
+            Follows laws p code place size x.there (step_price x.after + 1)
+            (p.source_tokens + 1 + unfinished (record { work = x.then_work; entries = s.entries } ∷ x.after.callers)) top return_top o →
+            Reaches (suc (suc k)) total (ahead s.work + unfinished s.callers) s from
         both_followed k sound depths later fit (Goes after) e c =
             let b = both_come after c in
             let d = b.0 in
-            goes_on 2 k (suc (suc k)) total (step_price s + step_price x.after) (ahead s.work + unfinished s.callers) (ahead s.work + unfinished s.callers) s after from top return_top (omega arith) (twice_on k after e) (twice_spent k after e) d b.1
-            (later (total + (step_price s + step_price x.after)) d.to d.out after d.base d.data_above d.return_above d.meets (sym (ap lacks (twice_on k after e)) ∙ sound) (λ j t lt q. depths (suc (suc j)) t (omega arith) (twice_on j after e ∙ q)))
+            goes_on 2 k (suc (suc k)) total (step_price s + step_price x.after) (ahead s.work + unfinished s.callers) (ahead s.work + unfinished s.callers) s
+            after from top return_top (omega arith) (twice_on k after e) (twice_spent k after e) d b.1
+            (later (total + (step_price s + step_price x.after)) d.to d.out after d.base d.data_above d.return_above d.meets
+            (sym (ap lacks (twice_on k after e)) ∙ sound) (λ j t lt q. depths (suc (suc j)) t (omega arith) (twice_on j after e ∙ q)))
             (λ high' return_high' steps_fit. let g = fit high' return_high' steps_fit in (g.0, g.1, λ j t lt q. steps_fit (suc (suc j)) t (omega arith) (twice_on j after e ∙ q)))
         both_followed k sound depths later fit (Ends Underflow world) e c = let f : true ≡ false = sym (ap lacks (twice_end k Underflow world e)) ∙ sound in cc
         both_followed k sound depths later fit (Ends Unbalanced world) e c = let f : true ≡ false = sym (ap lacks (twice_end k Unbalanced world e)) ∙ sound in cc
@@ -280,10 +290,13 @@ module _ (laws : Laws) (p : SourceProgram) (code : List ℕ) (place : ℕ → �
 
   one_more : (k : ℕ) → RunsOf k → ((j : ℕ) → suc j ≡ k → RunsOf j) → RunsOf (suc k)
   one_more k here earlier total pc out s base data_above return_above m sound depths =
-      ⊎_elim (λ f. followed total pc out s base data_above return_above m k sound depths here (step p s) refl f) (λ x. executing k earlier sound depths x) (step_follows laws p code place size all out pc s base data_above return_above m (depths 0 s (omega arith) (no_steps p s)))
+      ⊎_elim (λ f. followed total pc out s base data_above return_above m k sound depths here (step p s) refl f) (λ x. executing k earlier sound depths x)
+      (step_follows laws p code place size all out pc s base data_above return_above m (depths 0 s (omega arith) (no_steps p s)))
     where
       executing : (k : ℕ) → ((j : ℕ) → suc j ≡ k → RunsOf j) → lacks (steps p (suc k) s) ≡ false → DepthsFit p (suc k) s →
-          Executes laws p code place size all (standing_as s code pc base data_above return_above) (step_price s) (ahead s.work + unfinished s.callers) (length s.cells + peak_of s.callers (first_work s.work)) (length (return_places s.entries base) + back_of (first_work s.work)) (first_work s.work) s.cells s.entries base (step p s) →
+          Executes laws p code place size all (standing_as s code pc base data_above return_above) (step_price s) (ahead s.work + unfinished s.callers)
+          (length s.cells + peak_of s.callers (first_work s.work)) (length (return_places s.entries base) + back_of (first_work s.work)) (first_work s.work)
+          s.cells s.entries base (step p s) →
           Reaches (suc k) total (ahead s.work + unfinished s.callers) s (standing_as s code pc base data_above return_above)
       executing zero earlier sound depths x = executed total pc out s base data_above return_above m x sound
       executing (suc k) earlier sound depths x = twice total pc out s base data_above return_above m x k sound depths (earlier k refl)

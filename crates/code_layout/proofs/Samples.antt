@@ -92,7 +92,15 @@ two_cells = refl
 
 two_is_built : IsBuilt [] two
 unfolding two
-two_is_built = record { has_main = omega arith; items = refl; token_items = refl; leaves_in_loops = refl; code_fits = omega arith; data_start = record { is_even = refl; at_least = omega arith; at_most = omega arith }; tokens_counted = omega arith }
+two_is_built = record {
+  has_main = omega arith;
+  items = refl;
+  token_items = refl;
+  leaves_in_loops = refl;
+  code_fits = omega arith;
+  data_start = record { is_even = refl; at_least = omega arith; at_most = omega arith };
+  tokens_counted = omega arith;
+}
 
 two_prints : (open_run (laid_out [] two) [] 18).printed ≡ 65 ∷ []
 unfolding two
@@ -138,7 +146,15 @@ leaving =
 
 leaving_is_built : IsBuilt [] leaving
 unfolding leaving
-leaving_is_built = record { has_main = omega arith; items = refl; token_items = refl; leaves_in_loops = refl; code_fits = omega arith; data_start = record { is_even = refl; at_least = omega arith; at_most = omega arith }; tokens_counted = omega arith }
+leaving_is_built = record {
+  has_main = omega arith;
+  items = refl;
+  token_items = refl;
+  leaves_in_loops = refl;
+  code_fits = omega arith;
+  data_start = record { is_even = refl; at_least = omega arith; at_most = omega arith };
+  tokens_counted = omega arith;
+}
 
 leaving_prints : (open_run (laid_out [] leaving) [] 120).printed ≡ 0 ∷ 1 ∷ 7 ∷ []
 unfolding leaving
@@ -159,7 +175,15 @@ doubled_cells = refl
 
 doubled_is_built : IsBuilt library doubled
 unfolding library doubled
-doubled_is_built = record { has_main = omega arith; items = refl; token_items = refl; leaves_in_loops = refl; code_fits = omega arith; data_start = record { is_even = refl; at_least = omega arith; at_most = omega arith }; tokens_counted = omega arith }
+doubled_is_built = record {
+  has_main = omega arith;
+  items = refl;
+  token_items = refl;
+  leaves_in_loops = refl;
+  code_fits = omega arith;
+  data_start = record { is_even = refl; at_least = omega arith; at_most = omega arith };
+  tokens_counted = omega arith;
+}
 
 -- ' ?DUP CONSTANT TQ : MAIN 65 TQ EXECUTE EMIT EMIT ;
 executed : SourceProgram
@@ -175,7 +199,15 @@ executed = record {
 
 executed_is_built : IsBuilt library executed
 unfolding library executed
-executed_is_built = record { has_main = omega arith; items = refl; token_items = refl; leaves_in_loops = refl; code_fits = omega arith; data_start = record { is_even = refl; at_least = omega arith; at_most = omega arith }; tokens_counted = omega arith }
+executed_is_built = record {
+  has_main = omega arith;
+  items = refl;
+  token_items = refl;
+  leaves_in_loops = refl;
+  code_fits = omega arith;
+  data_start = record { is_even = refl; at_least = omega arith; at_most = omega arith };
+  tokens_counted = omega arith;
+}
 
 executed_prints : (open_run (laid_out library executed) [] 60).printed ≡ 65 ∷ 65 ∷ []
 unfolding library executed
@@ -203,7 +235,15 @@ tokens = record {
 
 tokens_are_built : IsBuilt [] tokens
 unfolding tokens
-tokens_are_built = record { has_main = omega arith; items = refl; token_items = refl; leaves_in_loops = refl; code_fits = omega arith; data_start = record { is_even = refl; at_least = omega arith; at_most = omega arith }; tokens_counted = omega arith }
+tokens_are_built = record {
+  has_main = omega arith;
+  items = refl;
+  token_items = refl;
+  leaves_in_loops = refl;
+  code_fits = omega arith;
+  data_start = record { is_even = refl; at_least = omega arith; at_most = omega arith };
+  tokens_counted = omega arith;
+}
 
 tokens_print : (open_run (laid_out [] tokens) [] 80).printed ≡ 65 ∷ 66 ∷ []
 unfolding tokens
@@ -227,7 +267,15 @@ children = record {
 
 children_are_built : IsBuilt [] children
 unfolding children
-children_are_built = record { has_main = omega arith; items = refl; token_items = refl; leaves_in_loops = refl; code_fits = omega arith; data_start = record { is_even = refl; at_least = omega arith; at_most = omega arith }; tokens_counted = omega arith }
+children_are_built = record {
+  has_main = omega arith;
+  items = refl;
+  token_items = refl;
+  leaves_in_loops = refl;
+  code_fits = omega arith;
+  data_start = record { is_even = refl; at_least = omega arith; at_most = omega arith };
+  tokens_counted = omega arith;
+}
 
 children_print : (open_run (laid_out [] children) [] 80).printed ≡ 10 ∷ 10 ∷ 10 ∷ []
 unfolding children

@@ -82,7 +82,8 @@ module _ (laws : Laws) (p : SourceProgram) (code : List ℕ) (place : ℕ → �
   Follows v price now high return_high (Ends Unbalanced world) = Unit {0}
   Follows v price now high return_high (Ends end world) = Halts v price high return_high end world
 
-  pub halts_after : (v v' : OpenConfiguration) (n price most high return_high : ℕ) (end : End) (world : World) → n + price ≤ most → Runs p.data_start high return_high n v v' → Halts v' price high return_high end world → Halts v most high return_high end world
+  pub halts_after : (v v' : OpenConfiguration) (n price most high return_high : ℕ) (end : End) (world : World) → n + price ≤ most →
+      Runs p.data_start high return_high n v v' → Halts v' price high return_high end world → Halts v most high return_high end world
   halts_after v v' n price most high return_high end world le runs f =
       let paid = f.cheap in
       let joined : run open_storage p.data_start (n + f.count) v ≡ run open_storage p.data_start f.count v' = laws.runs_join n f.count p.data_start v ∙ ap (run open_storage p.data_start f.count) runs.makes in
@@ -129,7 +130,8 @@ module _ (laws : Laws) (p : SourceProgram) (code : List ℕ) (place : ℕ → �
   }
 
   -- instructions, and then what follows a step
-  pub follows_after : (v v' : OpenConfiguration) (n price most now high return_high : ℕ) (o : Outcome) → n + price ≤ most → Runs p.data_start high return_high n v v' → Follows v' price now high return_high o → Follows v most now high return_high o
+  pub follows_after : (v v' : OpenConfiguration) (n price most now high return_high : ℕ) (o : Outcome) → n + price ≤ most →
+      Runs p.data_start high return_high n v v' → Follows v' price now high return_high o → Follows v most now high return_high o
   follows_after v v' n price most now high return_high (Goes after) le runs f =
       let paid = f.cheap in
       let far = f.progress in
@@ -156,7 +158,8 @@ module _ (laws : Laws) (p : SourceProgram) (code : List ℕ) (place : ℕ → �
     pub halt : StandIn code 1 halt_cells 4
     pub bodies : (d : ℕ) → d < length p.bodies → Stands code place p None (place d) (before (body_of p d) [])
 
-  module _ (high return_high pc now : ℕ) (out : Option ℕ) (fs : List Frame) (world : World) (fits : IsWorld world) (starts : world.data_start ≡ p.data_start) (base data_above return_above : List (Option ℕ)) (frames : Frames code place p fs base) (due : unfinished fs ≤ now) where
+  module _ (high return_high pc now : ℕ) (out : Option ℕ) (fs : List Frame) (world : World) (fits : IsWorld world) (starts : world.data_start ≡ p.data_start)
+      (base data_above return_above : List (Option ℕ)) (frames : Frames code place p fs base) (due : unfinished fs ≤ now) where
     -- the state of a frame over these, and the machine there
     abbrev pub here : List Work → List Entry → List ℕ → State
     here w es c = record { work = w; entries = es; callers = fs; cells = c; world = world }
@@ -183,7 +186,8 @@ module _ (laws : Laws) (p : SourceProgram) (code : List ℕ) (place : ℕ → �
         (record { stands = s; loops = l; frames = frames; cells = (small, fc); entries = fe; world = fits; starts = starts })
 
     word_halts : (word : Word) (next : ℕ) (w : List Work) (es : List Entry) (c : List ℕ) (end : End) (world' : World) → lacks (Ends end world') ≡ false → word_step p word c es (here w es c) ≡ Ends end world' →
-        stands_plain word ≡ true → CellsApply word c → StandIn code pc (cells_from p.data_start word) next → AreEntries es → AreCells c → length c + (entry_of word).peak ≤ high → length (return_places es base) + (entry_of word).back ≤ return_high →
+        stands_plain word ≡ true → CellsApply word c → StandIn code pc (cells_from p.data_start word) next → AreEntries es → AreCells c →
+        length c + (entry_of word).peak ≤ high → length (return_places es base) + (entry_of word).back ≤ return_high →
         Halts (There es c) (word_price word c world) high return_high end world'
     word_halts word next w es c end world' sound e plain fit stands fe fc room back =
         let ready = word_ready p high return_high base laws code size word (here w es c) pc next plain fit (ap lacks e ∙ sound) stands fc fe starts in
@@ -196,14 +200,22 @@ module _ (laws : Laws) (p : SourceProgram) (code : List ℕ) (place : ℕ → �
           stop_is = come.1;
           ended = come.2;
           bounds = word_bounded p high return_high base laws code size word (here w es c) pc next data_above return_above ready starts room back;
-          at_end = narrower laws p.data_start (length c - (entry_of word).need) (length c + (entry_of word).peak) (length (return_places es base) - return_need word) (length (return_places es base) + (entry_of word).back) high return_high (run open_storage p.data_start (length (cells_of word)) (There es c)) room back
-              (subst (λ d. StaysWithin (length c - (entry_of word).need) (length c + (entry_of word).peak) (length (return_places es base) - return_need word) (length (return_places es base) + (entry_of word).back) (run open_storage d (length (cells_of word)) (There es c))) starts
+          at_end =
+              narrower laws p.data_start (length c - (entry_of word).need) (length c + (entry_of word).peak)
+              (length (return_places es base) - return_need word) (length (return_places es base) + (entry_of word).back) high return_high
+              (run open_storage p.data_start (length (cells_of word)) (There es c)) room back
+              (subst
+              (λ d.
+              StaysWithin (length c - (entry_of word).need) (length c + (entry_of word).peak) (length (return_places es base) - return_need word)
+              (length (return_places es base) + (entry_of word).back) (run open_storage d (length (cells_of word)) (There es c))) starts
               (laws.word_ends p word code pc next (here w es c) base data_above return_above end world' ready e));
           cheap = omega (arith, paid);
         }
 
-    pub word_follows : (word : Word) (next : ℕ) (w : List Work) (es : List Entry) (c : List ℕ) (o : Outcome) → word_step p word c es (here w es c) ≡ o → stands_plain word ≡ true → CellsApply word c → StandIn code pc (cells_from p.data_start word) next →
-        Stands code place p out next w → Loops code place p out w → 1 + ahead w + unfinished fs ≤ now → AreEntries es → AreCells c → length c + (entry_of word).peak ≤ high → length (return_places es base) + (entry_of word).back ≤ return_high →
+    pub word_follows : (word : Word) (next : ℕ) (w : List Work) (es : List Entry) (c : List ℕ) (o : Outcome) → word_step p word c es (here w es c) ≡ o →
+        stands_plain word ≡ true → CellsApply word c → StandIn code pc (cells_from p.data_start word) next →
+        Stands code place p out next w → Loops code place p out w → 1 + ahead w + unfinished fs ≤ now → AreEntries es → AreCells c →
+        length c + (entry_of word).peak ≤ high → length (return_places es base) + (entry_of word).back ≤ return_high →
         Follows (There es c) (word_price word c world) now high return_high o
     word_follows word next w es c (Goes after) e plain fit stands s l n fe fc room back =
         let ready = word_ready p high return_high base laws code size word (here w es c) pc next plain fit (ap lacks e) stands fc fe starts in
@@ -246,7 +258,8 @@ module _ (laws : Laws) (p : SourceProgram) (code : List ℕ) (place : ℕ → �
         (runs_one laws p.data_start (length c) (length (return_places es base)) high return_high (There es c) _ room back (laws.jumps p.data_start target pc code c (return_places es base) data_above return_above world holds))
         (record { stands = s; loops = l; frames = frames; cells = fc; entries = fe; world = fits; starts = starts })
 
-    pub call_follows : AllStand → (tail : Bool) (d : ℕ) (w : List Work) (es : List Entry) (c : List ℕ) → ends_body w ≡ tail → d < length p.bodies → CallStands code place p tail pc (place d) (Stands code place p out (following pc) w) → Loops code place p out w →
+    pub call_follows : AllStand → (tail : Bool) (d : ℕ) (w : List Work) (es : List Entry) (c : List ℕ) → ends_body w ≡ tail → d < length p.bodies →
+        CallStands code place p tail pc (place d) (Stands code place p out (following pc) w) → Loops code place p out w →
         1 + ahead w + unfinished fs ≤ now → ahead w ≤ p.source_tokens → AreEntries es → AreCells c → length c ≤ high → length (return_places es base) ≤ return_high → Comes (There es c) 1 now high return_high (called p d (here w es c))
     -- in tail position the frame keeps no address
     call_follows all true d w es c e lt holds l n few fe fc room back =
@@ -271,7 +284,8 @@ module _ (laws : Laws) (p : SourceProgram) (code : List ℕ) (place : ℕ → �
           loops = loops_before code place p (body_of p d) None [] refl;
           frames = (
             base,
-            subst (λ tail. Called code place p tail (record { work = w; entries = es }) (Some (2 * following pc) ∷ return_places es base) base) (sym e) (record { out = out; pc = pc; returns = refl; stands = holds.1; loops = l; entries = fe }),
+            subst (λ tail. Called code place p tail (record { work = w; entries = es }) (Some (2 * following pc) ∷ return_places es base) base) (sym e)
+                (record { out = out; pc = pc; returns = refl; stands = holds.1; loops = l; entries = fe }),
             frames,
           );
           cells = fc;
@@ -291,7 +305,8 @@ module _ (laws : Laws) (p : SourceProgram) (code : List ℕ) (place : ℕ → �
         h.0
 
     -- a decision by the topmost cell
-    pub flag_follows : (target : ℕ) (at_zero other w : List Work) (es : List Entry) (c : List ℕ) → HoldsInstruction code pc (Branch target) → Stands code place p out target at_zero → Loops code place p out at_zero → Stands code place p out (following pc) other → Loops code place p out other →
+    pub flag_follows : (target : ℕ) (at_zero other w : List Work) (es : List Entry) (c : List ℕ) → HoldsInstruction code pc (Branch target) →
+        Stands code place p out target at_zero → Loops code place p out at_zero → Stands code place p out (following pc) other → Loops code place p out other →
         AreEntries es → AreCells c → length c ≤ high → length (return_places es base) ≤ return_high → Follows (There es c) 1 now high return_high (on_flag c at_zero other (here w es c))
     flag_follows target at_zero other w es [] holds s l s' l' fe fc room back = tt
     flag_follows target at_zero other w es (zero ∷ c) holds s l s' l' fe fc room back =
@@ -300,5 +315,6 @@ module _ (laws : Laws) (p : SourceProgram) (code : List ℕ) (place : ℕ → �
         (record { stands = s; loops = l; frames = frames; cells = fc.1; entries = fe; world = fits; starts = starts })
     flag_follows target at_zero other w es (suc n ∷ c) holds s l s' l' fe fc room back =
         comes (There es (suc n ∷ c)) 1 (following pc) 1 now high return_high out (here other es c) base (top (data_places c) ∷ data_above) return_above (omega arith) (omega arith) due
-        (runs_one laws p.data_start (suc (length c)) (length (return_places es base)) high return_high (There es (suc n ∷ c)) _ room back (laws.passes p.data_start target pc n code c (return_places es base) data_above return_above world holds))
+        (runs_one laws p.data_start (suc (length c)) (length (return_places es base)) high return_high (There es (suc n ∷ c)) _ room back
+        (laws.passes p.data_start target pc n code c (return_places es base) data_above return_above world holds))
         (record { stands = s'; loops = l'; frames = frames; cells = fc.1; entries = fe; world = fits; starts = starts })

@@ -9,7 +9,8 @@ use Rattle.forth_program.specs.State.{Entry, Cell, Loop, Work, Todo, TrueEnd, Un
 use Rattle.forth_program.specs.Tail.{is_tail, ends_body}
 use Rattle.forth_program.specs.Program.{SourceProgram, token_of}
 use Rattle.forth_program.specs.Form.{may_be_token}
-use Rattle.forth_program.specs.Step.{First, BodyEnd, IsLiteral, IsWord, IsCall, IsChild, IsText, IsIf, IsTrueEnd, IsUntil, IsWhile, IsRepeat, IsAgain, IsDo, IsQDo, IsTurn, IsOf, IsEndOf, IsEndCase, IsLeave, IsExit, before, first_in, first_among, first_work}
+use Rattle.forth_program.specs.Step.{First, BodyEnd, IsLiteral, IsWord, IsCall, IsChild, IsText, IsIf, IsTrueEnd, IsUntil, IsWhile, IsRepeat, IsAgain, IsDo}
+use Rattle.forth_program.specs.Step.{IsQDo, IsTurn, IsOf, IsEndOf, IsEndCase, IsLeave, IsExit, before, first_in, first_among, first_work}
 use Rattle.forth_program.specs.Cells.{AreCells, AreEntries, IsWorld}
 use Rattle.word_laws.specs.Control.{HoldsInstruction}
 use Rattle.word_laws.specs.Numbers.{number_cells}
@@ -77,7 +78,8 @@ module _ (code : List ℕ) (place : ℕ → ℕ) (p : SourceProgram) where
   -- what ?DO does before its loop: the test, and the way around the loop
   abbrev pub SkipStands : ℕ → ℕ → ℕ → Type 0
   SkipStands pc loop_at end_at =
-      (test : ℕ) × (jump_at : ℕ) × StandIn code pc (0x6181 ∷ 0x6181 ∷ 0x6703 ∷ []) test × HoldsInstruction code test (Branch loop_at) × StandIn code (following test) (0x6103 ∷ 0x6103 ∷ []) jump_at × HoldsInstruction code jump_at (Jump end_at)
+      (test : ℕ) × (jump_at : ℕ) × StandIn code pc (0x6181 ∷ 0x6181 ∷ 0x6703 ∷ []) test × HoldsInstruction code test (Branch loop_at)
+      × StandIn code (following test) (0x6103 ∷ 0x6103 ∷ []) jump_at × HoldsInstruction code jump_at (Jump end_at)
 
   -- OF stands at a place, with those of its body and of the other arms
   abbrev pub OfStands : ℕ → ℕ → ℕ → Type 0
@@ -153,7 +155,8 @@ module _ (code : List ℕ) (place : ℕ → ℕ) (p : SourceProgram) where
         (else_at : ℕ) × HoldsInstruction code pc (Branch else_at) × AllPlaced out (following pc) tail first (λ e. (next : ℕ) × HoldsInstruction code e (Jump next) × K next) × AllPlaced out else_at tail (Then node rest) K
     Placed out pc tail (Until body) K = (end : ℕ) × AllPlaced out pc false body (λ e. e ≡ end) × HoldsInstruction code end (Branch pc) × K (following end)
     Placed out pc tail (While test body) K =
-        (test_end : ℕ) × (body_end : ℕ) × (next : ℕ) × AllPlaced out pc false test (λ e. e ≡ test_end) × HoldsInstruction code test_end (Branch next) × AllPlaced out (following test_end) false body (λ e. e ≡ body_end) × HoldsInstruction code body_end (Jump pc) × K next
+        (test_end : ℕ) × (body_end : ℕ) × (next : ℕ) × AllPlaced out pc false test (λ e. e ≡ test_end) × HoldsInstruction code test_end (Branch next)
+        × AllPlaced out (following test_end) false body (λ e. e ≡ body_end) × HoldsInstruction code body_end (Jump pc) × K next
     Placed out pc tail (Again body) K = (end : ℕ) × AllPlaced out pc false body (λ e. e ≡ end) × HoldsInstruction code end (Jump pc)
     Placed out pc tail (Do body plus) K = LoopStands (λ out q. AllPlaced out q false body) plus pc K
     Placed out pc tail (QDo body plus) K = (loop_at : ℕ) × (end_at : ℕ) × SkipStands pc loop_at end_at × K end_at × LoopStands (λ out q. AllPlaced out q false body) plus loop_at K
@@ -282,7 +285,8 @@ module _ (code : List ℕ) (place : ℕ → ℕ) (p : SourceProgram) where
   tail_before (Then node rest) w = refl
 
   -- items in front of work
-  pub stands_before : (nodes : Nodes) (out : Option ℕ) (pc : ℕ) (w : List Work) (K : ℕ → Type 0) → ((q : ℕ) → K q → Stands out q w) → AllPlaced out pc (ends_body w) nodes K → tokens_of nodes + ahead w ≤ p.source_tokens → Stands out pc (before nodes w)
+  pub stands_before : (nodes : Nodes) (out : Option ℕ) (pc : ℕ) (w : List Work) (K : ℕ → Type 0) → ((q : ℕ) → K q → Stands out q w) →
+      AllPlaced out pc (ends_body w) nodes K → tokens_of nodes + ahead w ≤ p.source_tokens → Stands out pc (before nodes w)
   stands_before Empty out pc w K f h n = f pc h
   stands_before (Then node rest) out pc w K f h n = (
     subst (λ tail. Placed out pc tail node (λ q. Stands out q (before rest w))) (tail_before rest w)
@@ -333,7 +337,8 @@ module _ (code : List ℕ) (place : ℕ → ℕ) (p : SourceProgram) where
     pub fewer : ahead (back f) ≤ n
 
   mutual
-    opens_node : (node : Node) (out : Option ℕ) (pc : ℕ) (w : List Work) → Placed out pc (ends_body w) node (λ q. Stands out q w) → Loops out w → node_tokens node + ahead w ≤ p.source_tokens → Opens pc (first_in node w) (node_tokens node + ahead w)
+    opens_node : (node : Node) (out : Option ℕ) (pc : ℕ) (w : List Work) → Placed out pc (ends_body w) node (λ q. Stands out q w) → Loops out w →
+        node_tokens node + ahead w ≤ p.source_tokens → Opens pc (first_in node w) (node_tokens node + ahead w)
     opens_node (Literal value) out pc w h l n = record { out = out; stands = (h, n); loops = l; fewer = omega arith }
     opens_node (Plain word) out pc w h l n = record { out = out; stands = (h, n); loops = l; fewer = omega arith }
     opens_node (Call d) out pc w h l n = record { out = out; stands = (h, n); loops = l; fewer = omega arith }
@@ -366,7 +371,8 @@ module _ (code : List ℕ) (place : ℕ → ℕ) (p : SourceProgram) where
         let o = opens_all tests out pc h.0 (IsOf body others rest w) (OfTest body others rest ∷ w) h.3 mark mark l l (omega arith) (omega arith) in
         record { out = o.out; stands = o.stands; loops = o.loops; fewer = omega (arith, o.fewer) }
 
-    opens_all : (nodes : Nodes) (out : Option ℕ) (pc e : ℕ) (f : First) (w : List Work) → AllPlaced out pc (ends_body w) nodes (λ x. x ≡ e) → Stands out e (back f) → Stands out e w → Loops out (back f) → Loops out w → tokens_of nodes + ahead w ≤ p.source_tokens → ahead (back f) ≤ 0
+    opens_all : (nodes : Nodes) (out : Option ℕ) (pc e : ℕ) (f : First) (w : List Work) → AllPlaced out pc (ends_body w) nodes (λ x. x ≡ e) →
+        Stands out e (back f) → Stands out e w → Loops out (back f) → Loops out w → tokens_of nodes + ahead w ≤ p.source_tokens → ahead (back f) ≤ 0
         → Opens pc (first_among nodes f w) (tokens_of nodes + ahead w)
     opens_all Empty out pc e f w h b s m l n z = record { out = out; stands = subst (λ x. Stands out x (back f)) (sym h) b; loops = m; fewer = omega arith }
     opens_all (Then node rest) out pc e f w h b s m l n z =

@@ -55,7 +55,9 @@ pub record ForwardSimulation (library : List Nodes) (p : SourceProgram) (input :
   pub stacks_at_end : (high return_high : ℕ) (end : End) → StacksFit p input high return_high k → end_of (source_run p input k) ≡ Some end → StaysWithin 0 high 0 return_high (open_run (laid_out library p) input count)
 
 abbrev pub ImagesSimulateForward : Type 0
-ImagesSimulateForward = (library : List Nodes) (p : SourceProgram) (input : List ℕ) (k : ℕ) → IsLibrary library → LibraryMeans library → IsBuilt library p → AreBytes p.first_space → AreBytes input → IsSafe p input k → ForwardSimulation library p input k
+ImagesSimulateForward =
+    (library : List Nodes) (p : SourceProgram) (input : List ℕ) (k : ℕ) → IsLibrary library → LibraryMeans library → IsBuilt library p →
+    AreBytes p.first_space → AreBytes input → IsSafe p input k → ForwardSimulation library p input k
 
 -- what n instructions print is a beginning of what those word steps print, and where they have ended the source has ended alike
 pub record BackwardSimulation (library : List Nodes) (p : SourceProgram) (input : List ℕ) (n : ℕ) : Type 0 where
@@ -63,7 +65,9 @@ pub record BackwardSimulation (library : List Nodes) (p : SourceProgram) (input 
   pub ends : (stop : Stop) → (open_run (laid_out library p) input n).stop ≡ Some stop → (end : End) × (end_of (source_run p input (word_steps p n)) ≡ Some end) × (machine_end end ≡ Some stop)
 
 abbrev pub ImagesSimulateBackward : Type 0
-ImagesSimulateBackward = (library : List Nodes) (p : SourceProgram) (input : List ℕ) (n : ℕ) → IsLibrary library → LibraryMeans library → IsBuilt library p → AreBytes p.first_space → AreBytes input → IsSafe p input (word_steps p n) → BackwardSimulation library p input n
+ImagesSimulateBackward =
+    (library : List Nodes) (p : SourceProgram) (input : List ℕ) (n : ℕ) → IsLibrary library → LibraryMeans library → IsBuilt library p →
+    AreBytes p.first_space → AreBytes input → IsSafe p input (word_steps p n) → BackwardSimulation library p input n
 
 -- both hold of every built program, with every library that means its words
 pub record ImagesAgree : Type 0 where

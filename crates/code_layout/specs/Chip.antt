@@ -40,4 +40,6 @@ pub record AgreesOnChip (library : List Nodes) (p : SourceProgram) (input : List
 
 -- so it is of every built program that never lacks cells or return entries, and whose steps never take more cells than the chip has
 abbrev pub ChipsAgree : Type 0
-ChipsAgree = (library : List Nodes) (p : SourceProgram) (input : List ℕ) → IsLibrary library → LibraryMeans library → IsBuilt library p → AreBytes p.first_space → AreBytes input → ((k : ℕ) → IsSafe p input k) → ((k : ℕ) → StacksFit p input 33 32 k) → AgreesOnChip library p input
+ChipsAgree =
+    (library : List Nodes) (p : SourceProgram) (input : List ℕ) → IsLibrary library → LibraryMeans library → IsBuilt library p → AreBytes p.first_space →
+    AreBytes input → ((k : ℕ) → IsSafe p input k) → ((k : ℕ) → StacksFit p input 33 32 k) → AgreesOnChip library p input

@@ -38,4 +38,6 @@ abbrev pub all_begin_well : SourceProgram → Bool
 all_begin_well p = list_all (everywhere begins_well) p.bodies && list_all begins_well p.tokens
 
 abbrev pub LastCallsAreJumps : Type 0
-LastCallsAreJumps = (library : List Nodes) (p : SourceProgram) → IsLibrary library → list_all (everywhere begins_well) library ≡ true → IsBuilt library p → calls_go_back 0 p.bodies ≡ true → all_begin_well p ≡ true → LastCalls (laid_out library p).cells
+LastCallsAreJumps =
+    (library : List Nodes) (p : SourceProgram) → IsLibrary library → list_all (everywhere begins_well) library ≡ true → IsBuilt library p →
+    calls_go_back 0 p.bodies ≡ true → all_begin_well p ≡ true → LastCalls (laid_out library p).cells

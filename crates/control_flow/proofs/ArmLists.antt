@@ -38,7 +38,8 @@ arms_step : (go : ParserState → ParseResult Many) (m : ℕ) (at : ParserState)
 arms_step go zero at h = absurd (omega arith)
 arms_step go (suc m) at h = ap (λ k. go at >>= by_many go k) (omega arith)
 
-unfit_by : (go : ParserState → ParseResult Many) (others : ParserState → ParseResult Cases) (tests : Nodes) (at : ParserState) (e : Ending) → (e ≡ ending.Of → ⊥) → (e ≡ ending.EndCase → ⊥) → arms_by go others tests at e ≡ Refused at.count cause.BadNest
+unfit_by : (go : ParserState → ParseResult Many) (others : ParserState → ParseResult Cases) (tests : Nodes) (at : ParserState) (e : Ending) →
+    (e ≡ ending.Of → ⊥) → (e ≡ ending.EndCase → ⊥) → arms_by go others tests at e ≡ Refused at.count cause.BadNest
 unfit_by go others tests at ending.Of h k = absurd (h refl)
 unfit_by go others tests at ending.EndCase h k = absurd (k refl)
 unfit_by go others tests at e h k = refl

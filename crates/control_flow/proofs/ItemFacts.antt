@@ -18,7 +18,9 @@ use Rattle.control_flow.specs.declared.sense.Sense.TheVariants as sense
 use Rattle.control_flow.specs.Nest.{nest_ended, is_inside_do, open_of}
 use Rattle.control_flow.specs.Sense.{opening_word, ending_word}
 use Rattle.control_flow.specs.ParseResult.{ParserState, ParseResult, weighed, unfit}
-use Rattle.control_flow.specs.Items.{ReadToken, One, Many, Body, Cases, read_token_of, token_at, opened_at, ended_at, else_by, if_by, if_at, while_by, begin_by, begin_at, do_by, do_at, q_do_by, q_do_at, body_by, body_at, arms_by, arms_at, case_at, structure_at, alone, item_at, then_items, items_by, items_at}
+use Rattle.control_flow.specs.Items.{ReadToken, One, Many, Body, Cases, read_token_of, token_at, opened_at, ended_at, else_by, if_by, if_at, while_by, begin_by}
+use Rattle.control_flow.specs.Items.{begin_at, do_by, do_at, q_do_by, q_do_at, body_by, body_at, arms_by, arms_at, case_at, structure_at, alone, item_at}
+use Rattle.control_flow.specs.Items.{then_items, items_by, items_at}
 use Rattle.forth_program.specs.Weight.{else_weight, turn_weight, node_weight, weight as weight_of, arms_weight}
 use Rattle.forth_program.specs.SourceTokens.{node_tokens, tokens_of, arms_tokens}
 use Rattle.control_flow.specs.SourceLaw.{is_read}
@@ -77,7 +79,8 @@ token_read from = seen_read from (next_from from.count from.rest) (next_passes f
 
 -- ---- an item that is one token
 
-alone_read : (w : ℕ) (node : Node) (from : ParserState) → node_weight node ≡ w → node_tokens node ≡ 1 → leave_fits (is_inside_do from.nest) node ≡ true → ((N : ℕ) → Bounded N from → (is_read N node && inside (is_read N) node) ≡ true) → Good (ItemRead from) (alone w node from)
+alone_read : (w : ℕ) (node : Node) (from : ParserState) → node_weight node ≡ w → node_tokens node ≡ 1 → leave_fits (is_inside_do from.nest) node ≡ true →
+    ((N : ℕ) → Bounded N from → (is_read N node && inside (is_read N) node) ≡ true) → Good (ItemRead from) (alone w node from)
 alone_read w node from e t l i = good_then (λ x. Moves w from x × (x.nest ≡ from.nest)) (ItemRead from) (weighed w from) _ (weighs w from)
     (λ x m. record { entries = m.0.entries; definitions = m.0.definitions; nest = m.1; weight = omega (arith, e, m.0.weight); tokens = omega (arith, t, m.0.count); left = omega (arith, ap length m.0.rest); leaves = l; items = i })
 
@@ -91,7 +94,8 @@ module _ (go : ParserState → ParseResult Many) (n : ℕ) (goes : (at : ParserS
   module _ (from at : ParserState) (outer_is : length from.rest < n) where
     -- IF
     module _ (m : Moves 1 from at) (k : at.nest ≡ kind.If ∷ from.nest) where
-      else_read : (first second : Nodes) (e : Ending) (mid end : ParserState) → ItemsRead at (record { nodes = first; ending = ending.Else; at = mid }) → ItemsRead mid (record { nodes = second; ending = e; at = end }) → Good (ItemRead from) (else_by first second end e)
+      else_read : (first second : Nodes) (e : Ending) (mid end : ParserState) → ItemsRead at (record { nodes = first; ending = ending.Else; at = mid }) →
+          ItemsRead mid (record { nodes = second; ending = e; at = end }) → Good (ItemRead from) (else_by first second end e)
       else_read first second ending.Then mid end r s =
           let inner : mid.nest ≡ kind.Else ∷ from.nest = becomes kind.If kind.Else ending.Else from.nest at.nest mid.nest k refl r.nest in
           let w : at.weight + weight_of first + 1 ≤ mid.weight = r.weight in
@@ -132,7 +136,8 @@ module _ (go : ParserState → ParseResult Many) (n : ℕ) (goes : (at : ParserS
 
     -- BEGIN
     module _ (m : Moves 0 from at) (k : at.nest ≡ kind.Begin ∷ from.nest) where
-      while_read : (test body : Nodes) (e : Ending) (mid end : ParserState) → ItemsRead at (record { nodes = test; ending = ending.While; at = mid }) → ItemsRead mid (record { nodes = body; ending = e; at = end }) → Good (ItemRead from) (while_by test body end e)
+      while_read : (test body : Nodes) (e : Ending) (mid end : ParserState) → ItemsRead at (record { nodes = test; ending = ending.While; at = mid }) →
+          ItemsRead mid (record { nodes = body; ending = e; at = end }) → Good (ItemRead from) (while_by test body end e)
       while_read test body ending.Repeat mid end r s =
           let inner : mid.nest ≡ kind.While ∷ from.nest = becomes kind.Begin kind.While ending.While from.nest at.nest mid.nest k refl r.nest in
           let w : at.weight + weight_of test + 1 ≤ mid.weight = r.weight in
@@ -303,7 +308,8 @@ module _ (go : ParserState → ParseResult Many) (n : ℕ) (goes : (at : ParserS
         items = λ N b. c.items N (bounded_on N from at v.entries v.definitions b);
       })
 
-  structure_read : (m : ℕ) (o : Opening) (from at : ParserState) → Moves (entry_of (opening_word o)).weight from at → at.nest ≡ open_of o ∷ from.nest → length from.rest < n → length from.rest < m → Good (ItemRead from) (structure_at go m o at)
+  structure_read : (m : ℕ) (o : Opening) (from at : ParserState) → Moves (entry_of (opening_word o)).weight from at → at.nest ≡ open_of o ∷ from.nest →
+      length from.rest < n → length from.rest < m → Good (ItemRead from) (structure_at go m o at)
   structure_read m opening.If from at v k h i = if_read from at h v k
   structure_read m opening.Begin from at v k h i = begin_read from at h v k
   structure_read m opening.Do from at v k h i = do_read from at h v k

@@ -18,7 +18,9 @@ use Rattle.control_flow.specs.declared.nest.Ending.TheVariants as ending
 use Rattle.control_flow.specs.Nest.{is_inside_do}
 use Rattle.control_flow.specs.ParseResult.{ParserState, ParseResult, Fine, Refused, NotBuilt, Endless, Each}
 use Rattle.control_flow.specs.Items.{items_at}
-use Rattle.control_flow.specs.SourceText.{Named, Source, OutsideToken, is_reserved_name, is_colon_name, fixed_space, roomed, named_of, name_at, defined_by, definition_at, outside_of, outside_at, program_with, program_of_source, source_by, source_at, source_start, program_of_text}
+use Rattle.control_flow.specs.SourceText.{Named, Source, OutsideToken, is_reserved_name, is_colon_name, fixed_space, roomed, named_of, name_at, defined_by}
+use Rattle.control_flow.specs.SourceText.{definition_at, outside_of, outside_at, program_with, program_of_source, source_by, source_at, source_start}
+use Rattle.control_flow.specs.SourceText.{program_of_text}
 use Rattle.forth_program.specs.Weight.{weight as weight_of, bodies_weight}
 use Rattle.control_flow.specs.SourceLaw.{is_plain, is_read, IsSource, EachIsJudged, EachProgramIsSource}
 use Rattle.forth_program.specs.SourceTokens.{tokens_of, all_tokens}
@@ -146,7 +148,8 @@ record NamedRead (from : ParserState) (named : Named) : Type 0 where
   passed : Passed from named.at
   room : length named.at.entries < 512
 
-room_on : (t : Bool) (from at : ParserState) (name : List ℕ) → nat_lt (length at.entries) 512 ≡ t → Passed from at → Good (NamedRead from) (elim t [ true ↦ Fine (record { name = name; at = at }) | false ↦ Refused at.count cause.TooManyWords ])
+room_on : (t : Bool) (from at : ParserState) (name : List ℕ) → nat_lt (length at.entries) 512 ≡ t → Passed from at →
+    Good (NamedRead from) (elim t [ true ↦ Fine (record { name = name; at = at }) | false ↦ Refused at.count cause.TooManyWords ])
 room_on true from at name e p = record { passed = p; room = ltb-true (length at.entries) 512 e }
 room_on false from at name e p = tt
 
@@ -186,13 +189,18 @@ module _ (source : Source) (so_far : SourceRead source) (at : ParserState) (p : 
                 (all_wider (is_read (length source.bodies)) (is_read (length (source.bodies ++ nodes ∷ []))) (read_wider (length source.bodies) (length (source.bodies ++ nodes ∷ [])) (omega (arith, more))) source.bodies so_far.items)
                 (r.items (length (source.bodies ++ nodes ∷ [])) (record {
                   own = own;
-                  others = subst (AllBelow (length (source.bodies ++ nodes ∷ []))) (sym (q.passed.entries ∙ p.entries)) (below_wider source.at.definitions (length (source.bodies ++ nodes ∷ [])) source.at.entries (omega (arith, more, so_far.counted)) so_far.below);
+                  others =
+                      subst (AllBelow (length (source.bodies ++ nodes ∷ []))) (sym (q.passed.entries ∙ p.entries))
+                      (below_wider source.at.definitions (length (source.bodies ++ nodes ∷ [])) source.at.entries (omega (arith, more, so_far.counted))
+                      so_far.below);
                 }));
             back = back_more source.bodies nodes 0 so_far.back
                 (everywhere_wider (is_read (suc (0 + length source.bodies))) (has_id_below (suc (0 + length source.bodies))) (read_id (suc (0 + length source.bodies))) nodes
                 (r.items (suc (0 + length source.bodies)) (record {
                   own = omega (arith, q.passed.definitions ∙ p.definitions, so_far.counted);
-                  others = subst (AllBelow (suc (0 + length source.bodies))) (sym (q.passed.entries ∙ p.entries)) (below_wider source.at.definitions (suc (0 + length source.bodies)) source.at.entries (omega (arith, so_far.counted)) so_far.below);
+                  others =
+                      subst (AllBelow (suc (0 + length source.bodies))) (sym (q.passed.entries ∙ p.entries))
+                      (below_wider source.at.definitions (suc (0 + length source.bodies)) source.at.entries (omega (arith, so_far.counted)) so_far.below);
                 })));
             leaves = all_more (leaves_fit false) source.bodies nodes so_far.leaves (ap (λ l. leaves_fit (is_inside_do l) nodes) (sym empty) ∙ r.leaves);
             weight = omega (arith, weights_more source.bodies nodes, w, so_far.weight, q.passed.weight, p.weight);

@@ -111,13 +111,22 @@ module _ (p : SourceProgram) (z : Cert) where
       BodyHolds n (effect_keeps (definition_limits p d) (slice_index_or z.effects d idle)) (body_walk (definition_limits p d) (known_of z) (Some z.heads) (body_of p d) (replicate count no_interval)) (slice_index_or z.effects d idle)
   as_is n d count lim ds shared hs body e is_lim is_ds is_shared is_hs is_body is_e holds =
       subst (λ x. BodyHolds n (effect_keeps x (slice_index_or z.effects d idle)) (body_walk x (known_of z) (Some z.heads) (body_of p d) (replicate count no_interval)) (slice_index_or z.effects d idle)) is_lim
-      (subst (λ x. BodyHolds n (effect_keeps lim (slice_index_or z.effects d idle)) (body_walk lim (record { definitions = x; shared = z.shared }) (Some z.heads) (body_of p d) (replicate count no_interval)) (slice_index_or z.effects d idle)) is_ds
-      (subst (λ x. BodyHolds n (effect_keeps lim (slice_index_or z.effects d idle)) (body_walk lim (record { definitions = ds; shared = x }) (Some z.heads) (body_of p d) (replicate count no_interval)) (slice_index_or z.effects d idle)) is_shared
+      (subst
+      (λ x.
+      BodyHolds n (effect_keeps lim (slice_index_or z.effects d idle))
+      (body_walk lim (record { definitions = x; shared = z.shared }) (Some z.heads) (body_of p d) (replicate count no_interval))
+      (slice_index_or z.effects d idle)) is_ds
+      (subst
+      (λ x.
+      BodyHolds n (effect_keeps lim (slice_index_or z.effects d idle))
+      (body_walk lim (record { definitions = ds; shared = x }) (Some z.heads) (body_of p d) (replicate count no_interval))
+      (slice_index_or z.effects d idle)) is_shared
       (subst (λ x. BodyHolds n (effect_keeps lim (slice_index_or z.effects d idle)) (body_walk lim (record { definitions = ds; shared = shared }) (Some x) (body_of p d) (replicate count no_interval)) (slice_index_or z.effects d idle)) is_hs
       (subst (λ x. BodyHolds n (effect_keeps lim (slice_index_or z.effects d idle)) (body_walk lim (record { definitions = ds; shared = shared }) (Some hs) x (replicate count no_interval)) (slice_index_or z.effects d idle)) is_body
       (subst (λ x. BodyHolds n (effect_keeps lim x) (body_walk lim (record { definitions = ds; shared = shared }) (Some hs) body (replicate count no_interval)) x) (is_e ∙ ap (λ xs. slice_index_or xs d idle) is_ds) holds)))))
 
-  module _ (d count : ℕ) (lim : Limits) (ds : List Effect) (shared : Effect) (hs : List (ℤ × ℤ)) (body : Nodes) (e : Effect) (is_lim : lim ≡ definition_limits p d) (is_ds : ds ≡ z.effects) (is_shared : shared ≡ z.shared) (is_hs : hs ≡ z.heads)
+  module _ (d count : ℕ) (lim : Limits) (ds : List Effect) (shared : Effect) (hs : List (ℤ × ℤ)) (body : Nodes) (e : Effect)
+      (is_lim : lim ≡ definition_limits p d) (is_ds : ds ≡ z.effects) (is_shared : shared ≡ z.shared) (is_hs : hs ≡ z.heads)
       (is_body : body ≡ body_of p d) (is_e : e ≡ slice_index_or ds d idle) (less : d < length p.bodies) (few : d < length ds) (before : Whole d count) where
     pub one_holds : (more : ℕ) → BodyHolds (Some more) (effect_keeps lim e) (body_walk lim (record { definitions = ds; shared = shared }) (Some hs) body (replicate count no_interval)) e → Whole (d + 1) more
     one_holds more holds =
@@ -139,7 +148,9 @@ module _ (p : SourceProgram) (z : Cert) where
   pub unordered : list_all (λ e. is_ordered e.exit) z.effects ≡ false → false ≡ is_valid p z
   unordered h =
       contra (is_valid p z) (list_all (λ e. is_ordered e.exit) z.effects) (λ valid. ordered_bodies p (known_of z) z.heads p.bodies z.effects 0 []
-      (and_parts (bodies_check p (known_of z) z.heads p.bodies z.effects 0 []) (list_all (λ node. effect_in (token_effect (known_of z) node) z.shared) p.tokens && (is_ordered z.shared.exit && list_all (interval_keeps 33) z.heads)) valid).0) h
+      (and_parts (bodies_check p (known_of z) z.heads p.bodies z.effects 0 [])
+      (list_all (λ node. effect_in (token_effect (known_of z) node) z.shared) p.tokens
+      && (is_ordered z.shared.exit && list_all (interval_keeps 33) z.heads)) valid).0) h
 
 -- ---- a body
 

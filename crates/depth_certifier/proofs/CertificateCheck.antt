@@ -158,12 +158,18 @@ checks_are_exact p z proper = (to, from)
   where
     to : is_valid p z ≡ true → IsValid p z
     to h =
-        let a = and_parts (bodies_check p (known_of z) z.heads p.bodies z.effects 0 []) (list_all (λ node. effect_in (token_effect (known_of z) node) z.shared) p.tokens && (is_ordered z.shared.exit && list_all (interval_keeps 33) z.heads)) h in
+        let a =
+        and_parts (bodies_check p (known_of z) z.heads p.bodies z.effects 0 [])
+        (list_all (λ node. effect_in (token_effect (known_of z) node) z.shared) p.tokens
+        && (is_ordered z.shared.exit && list_all (interval_keeps 33) z.heads)) h in
         let b = and_parts (list_all (λ node. effect_in (token_effect (known_of z) node) z.shared) p.tokens) (is_ordered z.shared.exit && list_all (interval_keeps 33) z.heads) a.1 in
         let c = and_parts (is_ordered z.shared.exit) (list_all (interval_keeps 33) z.heads) b.1 in
         record {
           bodies = bodies_valid p (known_of z) z.heads p.bodies z.effects 0 0 [] refl a.0;
-          tokens = λ k d less. token_in_join (known_of z) (slice_index_or p.tokens k d) (proper k d less) (effect_in_true (token_effect (known_of z) (slice_index_or p.tokens k d)) z.shared (all_true (λ node. effect_in (token_effect (known_of z) node) z.shared) p.tokens b.0 k d less));
+          tokens = λ k d less.
+              token_in_join (known_of z) (slice_index_or p.tokens k d) (proper k d less)
+              (effect_in_true (token_effect (known_of z) (slice_index_or p.tokens k d)) z.shared
+              (all_true (λ node. effect_in (token_effect (known_of z) node) z.shared) p.tokens b.0 k d less));
           shared = ordered_true z.shared.exit c.0;
           heads = λ k d less. interval_true 33 (slice_index_or z.heads k d) (all_true (interval_keeps 33) z.heads c.1 k d less);
         }
@@ -173,6 +179,9 @@ checks_are_exact p z proper = (to, from)
         and_from (bodies_check p (known_of z) z.heads p.bodies z.effects 0 []) (list_all (λ node. effect_in (token_effect (known_of z) node) z.shared) p.tokens && (is_ordered z.shared.exit && list_all (interval_keeps 33) z.heads))
         (valid_bodies p (known_of z) z.heads p.bodies z.effects 0 0 [] refl (λ j. inl refl) v.bodies)
         (and_from (list_all (λ node. effect_in (token_effect (known_of z) node) z.shared) p.tokens) (is_ordered z.shared.exit && list_all (interval_keeps 33) z.heads)
-        (true_all (λ node. effect_in (token_effect (known_of z) node) z.shared) p.tokens (λ k d less. true_effect_in (token_effect (known_of z) (slice_index_or p.tokens k d)) z.shared (token_within (known_of z) (known_of z) (slice_index_or p.tokens k d) (λ n. effect_in_same _) (v.tokens k d less))))
+        (true_all (λ node. effect_in (token_effect (known_of z) node) z.shared) p.tokens
+        (λ k d less.
+        true_effect_in (token_effect (known_of z) (slice_index_or p.tokens k d)) z.shared
+        (token_within (known_of z) (known_of z) (slice_index_or p.tokens k d) (λ n. effect_in_same _) (v.tokens k d less))))
         (and_from (is_ordered z.shared.exit) (list_all (interval_keeps 33) z.heads) (true_ordered z.shared.exit v.shared)
         (true_all (interval_keeps 33) z.heads (λ k d less. true_interval 33 (slice_index_or z.heads k d) (v.heads k d less)))))

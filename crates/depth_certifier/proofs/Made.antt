@@ -81,7 +81,8 @@ all_keep p known hs (body ∷ bodies) (e ∷ es) d k v (suc n) = all_keep p know
 
 module _ (p : SourceProgram) (known : Known) (intervals : Intervals known) where
   -- what the walk of the code has made keeps the limits
-  pub walked_keeps : (lim : Limits) (d : ℕ) (body : Nodes) (heads notes : List (ℤ × ℤ)) (w : Walker) → lim ≡ definition_limits p d → HeadsKeep heads → body_walk lim known None body heads ≡ Ok (walk_in true notes w) → Keeps wide (made (walk_of w))
+  pub walked_keeps : (lim : Limits) (d : ℕ) (body : Nodes) (heads notes : List (ℤ × ℤ)) (w : Walker) → lim ≡ definition_limits p d → HeadsKeep heads →
+      body_walk lim known None body heads ≡ Ok (walk_in true notes w) → Keeps wide (made (walk_of w))
   walked_keeps lim d body heads notes w is_lim fine is =
       let k = body_kept lim known intervals body heads (walk_in true notes w) fine is in
       keep_wide (made (walk_of w)) (keep_widest p d (made (walk_of w)) (subst (λ l. Keeps l (made (walk_of w))) is_lim k.keeps))
@@ -124,7 +125,8 @@ module _ (p : SourceProgram) (known : Known) where
   pub has_room : (d count : ℕ) (next : List Effect) (notes : List (ℤ × ℤ)) → d < length p.bodies → Made d count next notes → count + loops (body_of p d) + all_loops (drop (d + 1) p.bodies) ≡ all_loops p.bodies
   has_room d count next notes less m = let more = ap all_loops (drop_more p.bodies d Empty less) in omega (arith, more, m.room)
 
-  pub one_refused : (d count : ℕ) (next : List Effect) (notes noted : List (ℤ × ℤ)) (cause : CertCause) → d < length p.bodies → MadeOf (Err cause) noted (body_walk (definition_limits p d) known None (body_of p d) (take count notes)) → Made d count next notes →
+  pub one_refused : (d count : ℕ) (next : List Effect) (notes noted : List (ℤ × ℤ)) (cause : CertCause) → d < length p.bodies →
+      MadeOf (Err cause) noted (body_walk (definition_limits p d) known None (body_of p d) (take count notes)) → Made d count next notes →
       rest p.bodies 0 [] ≡ Err (record { definition = d; reason = cause })
   one_refused d count next notes noted cause less is m =
       sym (here d count next notes less m) ∙ ap (λ r. prepend (take d next) (on_body d r (λ w. with_effect (made w) (rest (drop (d + 1) p.bodies) (suc d) w.heads)))) is ∙ prepend_err (take d next) (record { definition = d; reason = cause })

@@ -11,7 +11,8 @@ use Rattle.depth_certifier.specs.declared.walker.Walker.{Walker}
 use Rattle.depth_certifier.specs.Place.{Shape, Stand, Place, Unreachable, At, Doubled}
 use Rattle.depth_certifier.specs.Effects.{table_effect, keep}
 use Rattle.depth_certifier.specs.Certificate.{after, no_interval, Limits}
-use Rattle.depth_certifier.specs.Walk.{Walk, Walked, checked, in_limits, need_at, peak_at, back_at, take_with, take_at, takes, double_at, decide_at, decides, end_at, ends, join_at, joins, leave_at, leaving, back_to, returns_to, enters, enter_found, interval_of, noting}
+use Rattle.depth_certifier.specs.Walk.{Walk, Walked, checked, in_limits, need_at, peak_at, back_at, take_with, take_at, takes, double_at, decide_at, decides}
+use Rattle.depth_certifier.specs.Walk.{end_at, ends, join_at, joins, leave_at, leaving, back_to, returns_to, enters, enter_found, interval_of, noting}
 use Rattle.depth_certifier.specs.Walks.{walk_of, StepOf}
 use Rattle.depth_certifier.specs.Notes.{heads_of, walk_in}
 use Rattle.depth_certifier.proofs.WalkFits.{grows_length, entered}
@@ -29,8 +30,12 @@ checked_free false reason hs r s h = refl
 
 module _ (limits : Limits) where
   take_with_free : (x : Effect) (p : Stand) (shape : Option Shape) → Free (take_with limits x p shape)
-  take_with_free x p None w hs = checked_free (nat_le (need_at x p) limits.need && (nat_le (peak_at x p) limits.peak && in_limits (after x.exit p p.shape))) cause.Data hs _ _ (checked_free (nat_le (back_at x p None) limits.back) cause.Return hs _ _ refl)
-  take_with_free x p (Some shape) w hs = checked_free (nat_le (need_at x p) limits.need && (nat_le (peak_at x p) limits.peak && in_limits (after x.exit p p.shape))) cause.Data hs _ _ (checked_free (nat_le (back_at x p (Some shape)) limits.back) cause.Return hs _ _ refl)
+  take_with_free x p None w hs =
+      checked_free (nat_le (need_at x p) limits.need && (nat_le (peak_at x p) limits.peak && in_limits (after x.exit p p.shape))) cause.Data hs _ _
+      (checked_free (nat_le (back_at x p None) limits.back) cause.Return hs _ _ refl)
+  take_with_free x p (Some shape) w hs =
+      checked_free (nat_le (need_at x p) limits.need && (nat_le (peak_at x p) limits.peak && in_limits (after x.exit p p.shape))) cause.Data hs _ _
+      (checked_free (nat_le (back_at x p (Some shape)) limits.back) cause.Return hs _ _ refl)
 
   take_at_free : (x : Effect) (change : Shape → Option Shape) (s : Place) → Free (take_at limits x change s)
   take_at_free x change Unreachable w hs = refl
@@ -42,7 +47,10 @@ module _ (limits : Limits) where
 
   double_at_free : (s : Place) → Free (double_at limits s)
   double_at_free Unreachable w hs = refl
-  double_at_free (At p) w hs = checked_free (nat_le (need_at (table_effect table.QDup) p) limits.need && (nat_le (peak_at (table_effect table.QDup) p) limits.peak && in_limits (Doubled p))) cause.Data hs _ _ (checked_free (nat_le (back_at (table_effect table.QDup) p (Some p.shape)) limits.back) cause.Return hs _ _ refl)
+  double_at_free (At p) w hs =
+      checked_free
+      (nat_le (need_at (table_effect table.QDup) p) limits.need && (nat_le (peak_at (table_effect table.QDup) p) limits.peak && in_limits (Doubled p)))
+      cause.Data hs _ _ (checked_free (nat_le (back_at (table_effect table.QDup) p (Some p.shape)) limits.back) cause.Return hs _ _ refl)
   double_at_free (Doubled p) w hs = refl
 
   pub double_free : Free (λ w. double_at limits w.place w)
@@ -112,7 +120,8 @@ kept : (step : Walk → Walked) → Free step → (w u : Walk) → step w ≡ Ok
 kept step free w u h = sym (ap heads_in h) ∙ ap heads_in (free w w.heads) ∙ ap (λ r. heads_in (heads_set w.heads r)) h
 
 -- so a step of the code is one with heads noted too
-pub noted_too : (step : Walk → Walked) → Free step → (finding : Bool) (notes : List (ℤ × ℤ)) (r : Result (Unit {0}) CertCause) (w u : Walker) → StepOf r (step (walk_of w)) (walk_of u) → StepOf r (step (walk_in finding notes w)) (walk_in finding notes u)
+pub noted_too : (step : Walk → Walked) → Free step → (finding : Bool) (notes : List (ℤ × ℤ)) (r : Result (Unit {0}) CertCause) (w u : Walker) →
+    StepOf r (step (walk_of w)) (walk_of u) → StepOf r (step (walk_in finding notes w)) (walk_in finding notes u)
 noted_too step free finding notes (Ok done) w u h =
     let same : u.count ≡ w.count = sym (length-replicate u.count no_interval) ∙ ap length (kept step free (walk_of w) (walk_of u) h) ∙ length-replicate w.count no_interval in
     free (walk_of w) (heads_of finding notes w.count) ∙ ap (heads_set (heads_of finding notes w.count)) h ∙ ap (λ n. Ok (record (walk_of u) { heads = heads_of finding notes n })) (sym same)

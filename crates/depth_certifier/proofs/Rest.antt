@@ -81,7 +81,10 @@ module _ (facts : Facts) (effects : List Effect) (heads : List (ℤ × ℤ)) (to
   do_walked body plus inner x turn r w i h m u is ends taken entered same walked closed =
       let inside = walk (limits_of facts.bounds) (known_by facts effects) (given_by facts.finding heads) in
       let close = closes (limits_of facts.bounds) (turn_word plus) in
-      chain r (takes (limits_of facts.bounds) (table_effect table.Do) push_loop w) (λ i. then_do (enters (given_by facts.finding heads) (record i { leaves = Unreachable })) (λ h. then_do (inside (shape_at h.place) More body h) (close h.place w.leaves))) i u
+      chain r (takes (limits_of facts.bounds) (table_effect table.Do) push_loop w)
+      (λ i.
+      then_do (enters (given_by facts.finding heads) (record i { leaves = Unreachable }))
+      (λ h. then_do (inside (shape_at h.place) More body h) (close h.place w.leaves))) i u
       (subst (λ e. takes (limits_of facts.bounds) e push_loop w ≡ Ok i) is taken) (
       chain r (enters (given_by facts.finding heads) (record i { leaves = Unreachable })) (λ h. then_do (inside (shape_at h.place) More body h) (close h.place w.leaves)) h u entered (
       chain r (inside (shape_at h.place) More body h) (close h.place w.leaves) m u (subst (λ shape. inside shape More body h ≡ Ok m) same walked)
@@ -94,7 +97,10 @@ module _ (facts : Facts) (effects : List Effect) (heads : List (ℤ × ℤ)) (to
   query_do_walked body plus inner x turn r w i h m u is ends taken entered same walked closed =
       let inside = walk (limits_of facts.bounds) (known_by facts effects) (given_by facts.finding heads) in
       let close = query_closes (limits_of facts.bounds) (turn_word plus) in
-      chain r (takes (limits_of facts.bounds) (table_effect table.QDo) push_loop w) (λ i. then_do (enters (given_by facts.finding heads) (record i { leaves = Unreachable })) (λ h. then_do (inside (shape_at h.place) More body h) (close h.place i.place w.leaves))) i u
+      chain r (takes (limits_of facts.bounds) (table_effect table.QDo) push_loop w)
+      (λ i.
+      then_do (enters (given_by facts.finding heads) (record i { leaves = Unreachable }))
+      (λ h. then_do (inside (shape_at h.place) More body h) (close h.place i.place w.leaves))) i u
       (subst (λ e. takes (limits_of facts.bounds) e push_loop w ≡ Ok i) is taken) (
       chain r (enters (given_by facts.finding heads) (record i { leaves = Unreachable })) (λ h. then_do (inside (shape_at h.place) More body h) (close h.place i.place w.leaves)) h u entered (
       chain r (inside (shape_at h.place) More body h) (close h.place i.place w.leaves) m u (subst (λ shape. inside shape More body h ≡ Ok m) same walked)
@@ -135,7 +141,8 @@ pub one_room : (finding : Bool) (whole size count : ℕ) (notes : List (ℤ × �
 one_room finding whole size count notes items i item lt is before =
     room_first finding count (loops_in (node_of item)) (loops (nodes_of (drop (i + 1) items))) notes (here_roomy finding whole size count notes items i item lt is before).0
 
-pub one_counted : (finding : Bool) (whole size count more : ℕ) (notes after : List (ℤ × ℤ)) (items : List Item) (i : ℕ) (item : Item) → i < length items → item ≡ get_or items i item → more ≡ count + loops_in (node_of item) → length after ≡ length notes →
+pub one_counted : (finding : Bool) (whole size count more : ℕ) (notes after : List (ℤ × ℤ)) (items : List Item) (i : ℕ) (item : Item) → i < length items →
+    item ≡ get_or items i item → more ≡ count + loops_in (node_of item) → length after ≡ length notes →
     Roomy finding whole size count notes (drop i items) → Roomy finding whole size more after (drop (i + 1) items)
 one_counted finding whole size count more notes after items i item lt is grown same before =
     let now = here_roomy finding whole size count notes items i item lt is before in

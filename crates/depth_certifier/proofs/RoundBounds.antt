@@ -12,7 +12,8 @@ use Rattle.depth_certifier.specs.Place.{Place, Unreachable, At, Doubled, entry, 
 use Rattle.depth_certifier.specs.Effects.{Known, idle, effect_of, Return, child_effect}
 use Rattle.depth_certifier.specs.Certificate.{loops, BodyFits, no_interval, ExitIn, EffectIn, TokenIn, Limits, definition_limits, ExitKeeps, Keeps, Cert, known_of, BodiesFit, SharedInterval, IsValid}
 use Rattle.depth_certifier.specs.Walk.{Walk, Walked, walk, ends, start, body_walk, made}
-use Rattle.depth_certifier.specs.Rounds.{bottom, token_effect, joined_exit, joined_effect, shared_of, ProperToken, Refusal, Bodies, on_body, with_effect, bodies_round, with_shared, round, next_round, bottoms, after_rounds, RoundsRefuse, EachIn, HeadIn, IsLeast}
+use Rattle.depth_certifier.specs.Rounds.{bottom, token_effect, joined_exit, joined_effect, shared_of, ProperToken, Refusal, Bodies, on_body, with_effect}
+use Rattle.depth_certifier.specs.Rounds.{bodies_round, with_shared, round, next_round, bottoms, after_rounds, RoundsRefuse, EachIn, HeadIn, IsLeast}
 use Rattle.depth_certifier.proofs.SourcePlaces.{below_same}
 use Rattle.depth_certifier.proofs.Tests.{then_ok, min_left, min_right, max_left, max_right, exit_in_same, effect_in_same, effect_in_then, HeadsIn}
 use Rattle.depth_certifier.proofs.StepsBelowCertificate.{KnownIn, moved_in, Rel, found_from, ends_found}
@@ -110,7 +111,8 @@ each_joined : (x : Known) (nodes : List Node) (k : ℕ) (d : Node) → k < lengt
 each_joined x [] k d i = absurd (omega arith)
 each_joined x (node ∷ nodes) zero d i = joined_left (token_effect x node) (shared_of x nodes)
 each_joined x (node ∷ nodes) (suc k) d i =
-    effect_in_then (token_effect x (slice_index_or nodes k d)) (shared_of x nodes) (joined_effect (token_effect x node) (shared_of x nodes)) (each_joined x nodes k d (omega (arith, i))) (joined_right (token_effect x node) (shared_of x nodes))
+    effect_in_then (token_effect x (slice_index_or nodes k d)) (shared_of x nodes) (joined_effect (token_effect x node) (shared_of x nodes))
+    (each_joined x nodes k d (omega (arith, i))) (joined_right (token_effect x node) (shared_of x nodes))
 
 -- its exit is an interval
 interval_between : (a b c d : ℤ) → a ≤ℤ b → int_min a c ≤ℤ int_max b d
@@ -257,7 +259,9 @@ module _ (p : SourceProgram) where
   known_in : (z y : Cert) → EachIn z.effects y.effects → EffectIn z.shared y.shared → KnownIn (known_of z) (known_of y)
   known_in z y h s = record { definitions = index_in z.effects y.effects h; shared = s }
 
-  pub with_shared_ok : (shared : Effect) (s : Result Bodies Refusal) (z : Cert) → with_shared p shared s ≡ Ok z → (t : Bodies) × (s ≡ Ok t) × (record { effects = t.effects; shared = shared_of (record { definitions = t.effects; shared = shared }) p.tokens; heads = t.heads } ≡ z)
+  pub with_shared_ok : (shared : Effect) (s : Result Bodies Refusal) (z : Cert) → with_shared p shared s ≡ Ok z →
+      (t : Bodies) × (s ≡ Ok t)
+      × (record { effects = t.effects; shared = shared_of (record { definitions = t.effects; shared = shared }) p.tokens; heads = t.heads } ≡ z)
   with_shared_ok shared (Ok t) z h = (t, refl, cc (h))
   with_shared_ok shared (Err r) z h = cc (h)
 
@@ -305,7 +309,9 @@ module _ (p : SourceProgram) where
   pub no_heads_fine : HeadsFine []
   no_heads_fine j = (omega (arith, ints), omega (arith, ints), omega (arith, ints))
 
-  pub round_follows : (z u : Cert) → Intervals (known_of z) → round p (known_of z) ≡ Ok u → (t : Bodies) × Follows (known_of z) p.bodies 0 [] t × (u.effects ≡ t.effects) × (u.heads ≡ t.heads) × (u.shared ≡ shared_of (record { definitions = t.effects; shared = z.shared }) p.tokens)
+  pub round_follows : (z u : Cert) → Intervals (known_of z) → round p (known_of z) ≡ Ok u →
+      (t : Bodies) × Follows (known_of z) p.bodies 0 [] t × (u.effects ≡ t.effects) × (u.heads ≡ t.heads)
+      × (u.shared ≡ shared_of (record { definitions = t.effects; shared = z.shared }) p.tokens)
   round_follows z u intervals h =
       let s = with_shared_ok z.shared (bodies_round (definition_limits p) (known_of z) p.bodies 0 []) u h in
       (s.0, bodies_follow (known_of z) intervals p.bodies 0 [] s.0 no_heads_fine s.1, ap (λ c. c.effects) (sym s.2), ap (λ c. c.heads) (sym s.2), ap (λ c. c.shared) (sym s.2))
@@ -344,7 +350,9 @@ module _ (p : SourceProgram) where
       valid = record {
         bodies = subst (λ k. BodiesFit p k u.heads p.bodies u.effects 0 0) known_same
             (subst (λ es. BodiesFit p (known_of t) u.heads p.bodies es 0 0) (sym f.2) (subst (λ hs. BodiesFit p (known_of t) hs p.bodies f.0.effects 0 0) (sym f.3) f.1.valid));
-        tokens = λ k d less. token_in_join (known_of u) (slice_index_or p.tokens k d) (proper k d less) (subst (EffectIn (token_effect (known_of u) (slice_index_or p.tokens k d))) (sym shared_is) (each_joined (known_of u) p.tokens k d less));
+        tokens = λ k d less.
+            token_in_join (known_of u) (slice_index_or p.tokens k d) (proper k d less)
+            (subst (EffectIn (token_effect (known_of u) (slice_index_or p.tokens k d))) (sym shared_is) (each_joined (known_of u) p.tokens k d less));
         shared = subst (λ e. SharedInterval e.exit) (sym same_shared) intervals.shared;
         heads = all_fine u.heads (subst HeadsFine (sym f.3) f.1.fine);
       }

@@ -99,4 +99,7 @@ one_least p y z h i =
     let lz = count p (known_of z) z.heads p.bodies z.effects 0 0 i.valid.bodies in
     let len : length y.heads ≡ length z.heads = omega (arith, ly, lz) in
     cert_same y z (each_same y.effects z.effects (h.effects z i.valid) (i.effects y h.valid)) (effect_same y.shared z.shared (h.shared z i.valid) (i.shared y h.valid))
-    (heads_same y.heads z.heads len (λ k less. head_same (slice_index_or y.heads k no_interval) (slice_index_or z.heads k no_interval) (h.valid.heads k no_interval less).1 (i.valid.heads k no_interval (omega (arith, less, len))).1 (h.heads z i.valid k) (i.heads y h.valid k)))
+    (heads_same y.heads z.heads len
+    (λ k less.
+    head_same (slice_index_or y.heads k no_interval) (slice_index_or z.heads k no_interval) (h.valid.heads k no_interval less).1
+    (i.valid.heads k no_interval (omega (arith, less, len))).1 (h.heads z i.valid k) (i.heads y h.valid k)))

@@ -18,7 +18,9 @@ use Rattle.depth_certifier.proofs.SourcePlaces.{Stood, stood_more, below_same}
 use Rattle.depth_certifier.proofs.Work.{FirstLeads, opens, enter}
 use Rattle.depth_certifier.proofs.Frames.{KeepsFrames, Onward, Moves}
 use Rattle.depth_certifier.proofs.Steps.{literal_moves, word_moves}
-use Rattle.depth_certifier.proofs.Structures.{if_moves, true_end_moves, until_moves, while_moves, repeat_moves, again_moves, do_moves, query_do_moves, turn_moves, of_moves, end_of_moves, end_case_moves, leave_moves, body_end_moves, exit_moves, text_moves, call_moves, child_moves}
+use Rattle.depth_certifier.proofs.Structures.{if_moves, true_end_moves, until_moves, while_moves, repeat_moves, again_moves, do_moves, query_do_moves}
+use Rattle.depth_certifier.proofs.Structures.{turn_moves, of_moves, end_of_moves, end_case_moves, leave_moves, body_end_moves, exit_moves, text_moves}
+use Rattle.depth_certifier.proofs.Structures.{call_moves, child_moves}
 
 module _ (p : SourceProgram) (known : Known) (heads : List (ℤ × ℤ)) (main : Effect) (most return_most high : ℕ) (lower : most ≤ high) (limit : high ≤ 33) (ends : end_height main.exit ≤ high)
     (tokens : (token : ℕ) (node : Node) → token_of p token ≡ Some node → TokenIn known node)
@@ -29,23 +31,43 @@ module _ (p : SourceProgram) (known : Known) (heads : List (ℤ × ℤ)) (main :
   first_moves : (s : State) (h : HoldsAt s) (f : First) (place l : Place) → FirstLeads known heads h.effect f place l → Stood h.base place s.cells s.entries → Moves known heads main most return_most p high f s (act p f s)
   first_moves s h BodyEnd place l f st = body_end_moves p known heads main most return_most high lower limit ends h.effect h.base s.callers h.bounds h.callers s.world s.work s.entries s.cells place f st h.few h.room
   first_moves s h IsExit place l f st = exit_moves p known heads main most return_most high lower limit ends h.effect h.base s.callers h.bounds h.callers s.world s.work s.entries s.cells place f st h.few h.room
-  first_moves s h (IsLiteral value work) place l f st = literal_moves p known heads main most return_most high lower limit ends h.effect h.base s.callers h.bounds h.callers s.world value work s.work s.entries s.cells place f.3 l f.4 st h.few h.room (f.5, f.6, f.7)
-  first_moves s h (IsWord word work) place l f st = word_moves p known heads main most return_most high lower limit ends h.effect h.base s.callers h.bounds h.callers s.world tokens f.0 word work s.work s.entries s.cells place f.3 l f.4 st h.few h.room (f.5, f.6, f.7)
-  first_moves s h (IsCall d work) place l f st = call_moves p known heads main most return_most high lower limit ends h.effect h.base s.callers h.bounds h.callers s.world bodies limits d f.0 work s.work s.entries s.cells place f.3 l f.1 f.4 st h.few h.room (f.5, f.6, f.7)
-  first_moves s h (IsChild d a work) place l f st = child_moves p known heads main most return_most high lower limit ends h.effect h.base s.callers h.bounds h.callers s.world bodies limits d a f.0 work s.work s.entries s.cells place f.4.0 f.3 l f.1 f.4.1 f.4.2 st h.few h.room (f.5, f.6, f.7)
-  first_moves s h (IsText kind a n work) place l f st = text_moves p known heads main most return_most high lower limit ends h.effect h.base s.callers h.bounds h.callers s.world kind a n work s.work s.entries s.cells place f.3 l f.4 st h.few h.room (f.5, f.6, f.7)
+  first_moves s h (IsLiteral value work) place l f st =
+      literal_moves p known heads main most return_most high lower limit ends h.effect h.base s.callers h.bounds h.callers s.world value work s.work
+      s.entries s.cells place f.3 l f.4 st h.few h.room (f.5, f.6, f.7)
+  first_moves s h (IsWord word work) place l f st =
+      word_moves p known heads main most return_most high lower limit ends h.effect h.base s.callers h.bounds h.callers s.world tokens f.0 word work s.work
+      s.entries s.cells place f.3 l f.4 st h.few h.room (f.5, f.6, f.7)
+  first_moves s h (IsCall d work) place l f st =
+      call_moves p known heads main most return_most high lower limit ends h.effect h.base s.callers h.bounds h.callers s.world bodies limits d f.0 work
+      s.work s.entries s.cells place f.3 l f.1 f.4 st h.few h.room (f.5, f.6, f.7)
+  first_moves s h (IsChild d a work) place l f st =
+      child_moves p known heads main most return_most high lower limit ends h.effect h.base s.callers h.bounds h.callers s.world bodies limits d a f.0 work
+      s.work s.entries s.cells place f.4.0 f.3 l f.1 f.4.1 f.4.2 st h.few h.room (f.5, f.6, f.7)
+  first_moves s h (IsText kind a n work) place l f st =
+      text_moves p known heads main most return_most high lower limit ends h.effect h.base s.callers h.bounds h.callers s.world kind a n work s.work
+      s.entries s.cells place f.3 l f.4 st h.few h.room (f.5, f.6, f.7)
   first_moves s h (IsIf one other work) place l f st = if_moves p known heads main most return_most high lower limit ends h.effect h.base s.callers h.bounds h.callers s.world one other work s.work s.entries s.cells place l f st h.few h.room
   first_moves s h (IsTrueEnd work) place l f st = true_end_moves p known heads main most return_most high lower limit ends h.effect h.base s.callers h.bounds h.callers s.world work s.work s.entries s.cells place l f st h.few h.room
   first_moves s h (IsUntil body work) place l f st = until_moves p known heads main most return_most high lower limit ends h.effect h.base s.callers h.bounds h.callers s.world body work s.work s.entries s.cells place l f st h.few h.room
-  first_moves s h (IsWhile test body work) place l f st = while_moves p known heads main most return_most high lower limit ends h.effect h.base s.callers h.bounds h.callers s.world test body work s.work s.entries s.cells place l f st h.few h.room
-  first_moves s h (IsRepeat test body work) place l f st = repeat_moves p known heads main most return_most high lower limit ends h.effect h.base s.callers h.bounds h.callers s.world test body work s.work s.entries s.cells place l f st h.few h.room
+  first_moves s h (IsWhile test body work) place l f st =
+      while_moves p known heads main most return_most high lower limit ends h.effect h.base s.callers h.bounds h.callers s.world test body work s.work
+      s.entries s.cells place l f st h.few h.room
+  first_moves s h (IsRepeat test body work) place l f st =
+      repeat_moves p known heads main most return_most high lower limit ends h.effect h.base s.callers h.bounds h.callers s.world test body work s.work
+      s.entries s.cells place l f st h.few h.room
   first_moves s h (IsAgain body work) place l f st = again_moves p known heads main most return_most high lower limit ends h.effect h.base s.callers h.bounds h.callers s.world body work s.work s.entries s.cells place l f st h.few h.room
   first_moves s h (IsDo body plus work) place l f st = do_moves p known heads main most return_most high lower limit ends h.effect h.base s.callers h.bounds h.callers s.world body plus work s.work s.entries s.cells place l f st h.few h.room
-  first_moves s h (IsQDo body plus work) place l f st = query_do_moves p known heads main most return_most high lower limit ends h.effect h.base s.callers h.bounds h.callers s.world body plus work s.work s.entries s.cells place l f st h.few h.room
-  first_moves s h (IsOf body others rest work) place l f st = of_moves p known heads main most return_most high lower limit ends h.effect h.base s.callers h.bounds h.callers s.world body others rest work s.work s.entries s.cells place l f st h.few h.room
+  first_moves s h (IsQDo body plus work) place l f st =
+      query_do_moves p known heads main most return_most high lower limit ends h.effect h.base s.callers h.bounds h.callers s.world body plus work s.work
+      s.entries s.cells place l f st h.few h.room
+  first_moves s h (IsOf body others rest work) place l f st =
+      of_moves p known heads main most return_most high lower limit ends h.effect h.base s.callers h.bounds h.callers s.world body others rest work s.work
+      s.entries s.cells place l f st h.few h.room
   first_moves s h (IsEndOf work) place l f st = end_of_moves p known heads main most return_most high lower limit ends h.effect h.base s.callers h.bounds h.callers s.world work s.work s.entries s.cells place l f st h.few h.room
   first_moves s h (IsEndCase work) place l f st = end_case_moves p known heads main most return_most high lower limit ends h.effect h.base s.callers h.bounds h.callers s.world work s.work s.entries s.cells place l f st h.few h.room
-  first_moves s h (IsTurn body plus work) place l f st = turn_moves p known heads main most return_most high lower limit ends h.effect h.base s.callers h.bounds h.callers s.world body plus work s.work s.entries s.cells place l f st h.few h.room
+  first_moves s h (IsTurn body plus work) place l f st =
+      turn_moves p known heads main most return_most high lower limit ends h.effect h.base s.callers h.bounds h.callers s.world body plus work s.work
+      s.entries s.cells place l f st h.few h.room
   first_moves s h (IsLeave work) place l f st = leave_moves p known heads main most return_most high lower limit ends h.effect h.base s.callers h.bounds h.callers s.world work s.work s.entries s.cells place l f st h.few h.room
 
   -- a step from where the certificate holds fits the bounds, and leads to where it holds

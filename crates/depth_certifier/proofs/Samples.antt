@@ -147,7 +147,10 @@ grows : after_rounds (program ((Again (items (Literal 1 ∷ [])) ∷ []) ∷ [])
 grows = refl
 
 -- : K CASE 1 OF 65 ENDOF 2 OF 66 ENDOF 67 SWAP ENDCASE EMIT ; : MAIN 1 K 2 K 9 K ;
-chooses : after_rounds (program ((Case (arms ((Literal 1 ∷ [], Literal 65 ∷ []) ∷ (Literal 2 ∷ [], Literal 66 ∷ []) ∷ [])) (items (Literal 67 ∷ Plain Swap ∷ [])) ∷ Plain Emit ∷ []) ∷ (Literal 1 ∷ Call 0 ∷ Literal 2 ∷ Call 0 ∷ Literal 9 ∷ Call 0 ∷ []) ∷ []) 1 []) 3
+chooses : after_rounds
+    (program
+    ((Case (arms ((Literal 1 ∷ [], Literal 65 ∷ []) ∷ (Literal 2 ∷ [], Literal 66 ∷ []) ∷ [])) (items (Literal 67 ∷ Plain Swap ∷ [])) ∷ Plain Emit ∷ [])
+    ∷ (Literal 1 ∷ Call 0 ∷ Literal 2 ∷ Call 0 ∷ Literal 9 ∷ Call 0 ∷ []) ∷ []) 1 []) 3
     ≡ certificate (effect 1 2 0 (Some (negsuc 0, negsuc 0)) ∷ effect 0 3 1 even ∷ []) bottom []
 chooses = refl
 

@@ -42,7 +42,9 @@ module _ (p : SourceProgram) where
     pub round_refuses : (r : Refusal) → round p (record { definitions = effects; shared = shared }) ≡ Err r → RoundsRefuse p r
     round_refuses r h = (suc s.n, ap (next_round p) s.reached ∙ h)
 
-    pub round_ends : (next : List Effect) (joined : Effect) (heads : List (ℤ × ℤ)) → round p (record { definitions = effects; shared = shared }) ≡ Ok (cert next joined heads) → next ≡ effects → joined ≡ shared → Ending p (cert effects shared heads)
+    pub round_ends : (next : List Effect) (joined : Effect) (heads : List (ℤ × ℤ)) →
+        round p (record { definitions = effects; shared = shared }) ≡ Ok (cert next joined heads) → next ≡ effects → joined ≡ shared →
+        Ending p (cert effects shared heads)
     round_ends next joined heads h same_effects same_shared = record {
       n = s.n;
       before = cert effects shared s.heads;

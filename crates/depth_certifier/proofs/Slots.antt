@@ -39,7 +39,9 @@ differ : (x y : Slot) → same_slot x y ≡ false → x ≡ y → ⊥
 differ x y h same = (let both : false ≡ true = sym h ∙ ap (λ z. same_slot x z) (sym same) ∙ true_same_slot x in cc (both))
 
 pub other_slot : (xs ys : List Slot) (n i : ℕ) → i < n → n ≤ length xs → n ≤ length ys → same_slot (get_or xs i OfCell) (get_or ys i OfCell) ≡ false → false ≡ same_shape (reverse (take n xs)) (reverse (take n ys))
-other_slot xs ys n i less a b other = same_shape_is (reverse (take n xs)) (reverse (take n ys)) false (λ h. cc (h)) (λ _ same. differ (get_or xs i OfCell) (get_or ys i OfCell) other (take_apart xs ys n i less (unreversed (take n xs) (take n ys) same) a b))
+other_slot xs ys n i less a b other =
+    same_shape_is (reverse (take n xs)) (reverse (take n ys)) false (λ h. cc (h))
+    (λ _ same. differ (get_or xs i OfCell) (get_or ys i OfCell) other (take_apart xs ys n i less (unreversed (take n xs) (take n ys) same) a b))
 
 pub same_slots : (xs ys : List Slot) (n m : ℕ) → n ≡ m → take n xs ≡ take n ys → true ≡ same_shape (reverse (take n xs)) (reverse (take m ys))
 same_slots xs ys n m count same = same_shape_is (reverse (take n xs)) (reverse (take m ys)) true (λ _. ap reverse (same ∙ ap (λ k. take k ys) count)) (λ h. cc (h))

@@ -84,7 +84,8 @@ module _ (p : SourceProgram) (known : Known) (heads : List (ℤ × ℤ)) (main :
   quiet f w es c pk bk depth executes few room onward =
       record { data_cells = omega (arith, pk, few, lower); return_cells = omega (arith, bk, room, bounds.back); depth = depth; executes = omega (arith, executes, room, bounds.back); onward = onward }
 
-  pub literal_moves : (value : ℕ) (work w : List Work) (es : List Entry) (c : List ℕ) (place t l : Place) → Leads e (table_effect table.Literal) keep place t → Stood base place c es → length c ≤ most → entries_height es ≤ e.back → From work t l → Step (IsLiteral value work) w es c
+  pub literal_moves : (value : ℕ) (work w : List Work) (es : List Entry) (c : List ℕ) (place t l : Place) → Leads e (table_effect table.Literal) keep place t →
+      Stood base place c es → length c ≤ most → entries_height es ≤ e.back → From work t l → Step (IsLiteral value work) w es c
   literal_moves value work w es c Unreachable t l leads st few room f = absurd st
   literal_moves value work w es c (Doubled q) t l leads st few room f = absurd leads
   literal_moves value work w es c (At q) t l leads st few room f =
@@ -100,7 +101,10 @@ module _ (p : SourceProgram) (known : Known) (heads : List (ℤ × ℤ)) (main :
       Onward known heads main most return_most (word_step p word c es (here work es c))
   meaning_onward word work w es c q t l leads st f false has keeps is = (let none : None ≡ Some leads.0 = sym (keeps q.shape) ∙ leads.1 in cc (none))
   meaning_onward word work w es c q t l leads st f true has keeps is =
-      let kept : Kept (table_effect word).exit (length c) (meaning word c world) = (let k = meaning_kept world word c (need (table_effect word) q leads.0 es c leads.2 st) in subst (λ b. When b (Kept (table_effect word).exit (length c) (meaning word c world))) has k) in
+      let kept : Kept (table_effect word).exit (length c) (meaning word c world) =
+      (let k =
+      meaning_kept world word c (need (table_effect word) q leads.0 es c leads.2 st) in
+      subst (λ b. When b (Kept (table_effect word).exit (length c) (meaning word c world))) has k) in
       subst (Onward known heads main most return_most) (sym is)
       (kept_onward known heads main most return_most (table_effect word).exit (length c) (meaning word c world) (here work es c) kept
       (λ c' w' h.
@@ -175,7 +179,8 @@ module _ (p : SourceProgram) (known : Known) (heads : List (ℤ × ℤ)) (main :
   lowered q = moved q (negsuc 0) (negsuc 0)
 
   -- an effect within the shared one, where EXECUTE stands at q and leads to t
-  token_leads : (x : Effect) (change : Shape → Option Shape) (q : Stand) (t : Place) → x.need ≤ known.shared.need → x.peak ≤ known.shared.peak → x.back ≤ 1 + known.shared.back → ExitIn x.exit known.shared.exit → change q.shape ≡ Some q.shape →
+  token_leads : (x : Effect) (change : Shape → Option Shape) (q : Stand) (t : Place) → x.need ≤ known.shared.need → x.peak ≤ known.shared.peak →
+      x.back ≤ 1 + known.shared.back → ExitIn x.exit known.shared.exit → change q.shape ≡ Some q.shape →
       Leads e (execute_effect known.shared) keep (At q) t → Leads e x change (At (lowered q)) (after x.exit (lowered q) q.shape) × Below (after x.exit (lowered q) q.shape) t
   token_leads x change q t need peak back exit ch leads =
       let same : q.shape ≡ leads.0 = (let h = leads.1 in cc (h)) in
@@ -273,8 +278,12 @@ module _ (p : SourceProgram) (known : Known) (heads : List (ℤ × ℤ)) (main :
       let r = token_leads (table_effect table.Literal) keep q t h.need h.peak (let n = h.back in omega (arith, n)) h.exit refl leads in (_, r.0, r.1)
   token_fits b (Plain word) q t l h leads =
       let is = token_word word h.0 in
-      let r = token_leads (table_effect word) (shape_after word) q t h.1.need h.1.peak (let n = h.1.back in omega (arith, n)) h.1.exit (ap (λ f. f q.shape) is.0) leads in
-      (_, subst (λ d. WordLeads known heads e d word (At (lowered q)) (after (table_effect word).exit (lowered q) q.shape)) (sym (no_doubling b word)) (subst (λ x. Leads e x (shape_after word) (At (lowered q)) (after (table_effect word).exit (lowered q) q.shape)) (sym is.1) r.0), r.1)
+      let r = token_leads (table_effect word) (shape_after word) q t h.1.need h.1.peak (let n = h.1.back in omega (arith, n)) h.1.exit (ap (λ f. f q.shape) is.0) leads in (
+        _,
+        subst (λ d. WordLeads known heads e d word (At (lowered q)) (after (table_effect word).exit (lowered q) q.shape)) (sym (no_doubling b word))
+            (subst (λ x. Leads e x (shape_after word) (At (lowered q)) (after (table_effect word).exit (lowered q) q.shape)) (sym is.1) r.0),
+        r.1,
+      )
   token_fits b (Call d) q t l h leads =
       let x = effect_of known d in
       let r = token_leads (called_effect (next_by b) x) keep q t h.need h.peak (let n = h.back in omega (arith, n, one_more (is_jump (next_by b)))) h.exit refl leads in (_, r.0, r.1)
@@ -292,7 +301,9 @@ module _ (p : SourceProgram) (known : Known) (heads : List (ℤ × ℤ)) (main :
   token_fits b Exit q t l h leads = absurd h
 
   module _ (tokens : (token : ℕ) (node : Node) → token_of p token ≡ Some node → TokenIn known node) where
-    with_token_onward : (o : Option Node) (token : ℕ) (work w : List Work) (es : List Entry) (c : List ℕ) (q : Stand) (t l : Place) → token_of p token ≡ o → Leads e (execute_effect known.shared) keep (At q) t → Inside base q (suc (length c)) es → suc (length c) ≤ most → entries_height es ≤ e.back → From work t l →
+    with_token_onward : (o : Option Node) (token : ℕ) (work w : List Work) (es : List Entry) (c : List ℕ) (q : Stand) (t l : Place) → token_of p token ≡ o →
+        Leads e (execute_effect known.shared) keep (At q) t → Inside base q (suc (length c)) es → suc (length c) ≤ most → entries_height es ≤ e.back →
+        From work t l →
         Onward known heads main most return_most (with_token o (here work es c))
     with_token_onward None token work w es c q t l is leads st few room f = refl
     with_token_onward (Some node) token work w es c q t l is leads st few room f =
@@ -322,21 +333,36 @@ module _ (p : SourceProgram) (known : Known) (heads : List (ℤ × ℤ)) (main :
     token_room None token work is = omega arith
     token_room (Some node) token work is = (let low = token_low node work (tokens token node is) in omega (arith, low, one_more (ends_body work)))
 
-    execute_moves : (work w : List Work) (es : List Entry) (c : List ℕ) (q : Stand) (t l : Place) → Leads e (execute_effect known.shared) keep (At q) t → Inside base q (length c) es → length c ≤ most → entries_height es ≤ e.back → From work t l → Step (IsWord Execute work) w es c
+    execute_moves : (work w : List Work) (es : List Entry) (c : List ℕ) (q : Stand) (t l : Place) → Leads e (execute_effect known.shared) keep (At q) t →
+        Inside base q (length c) es → length c ≤ most → entries_height es ≤ e.back → From work t l → Step (IsWord Execute work) w es c
     execute_moves work w es [] q t l leads st few room f = absurd (let n = need (execute_effect known.shared) q leads.0 es [] leads.2 st in omega (arith, n))
     execute_moves work w es (token ∷ c) q t l leads st few room f =
         let pk = peak (execute_effect known.shared) q leads.0 es (token ∷ c) leads.2 st in
         let bk = back (execute_effect known.shared) q leads.0 es (token ∷ c) leads.2 st in
-        record { data_cells = omega (arith, pk, lower); return_cells = omega (arith, bk); depth = tt; executes = (let low = token_room (token_of p token) token work refl in omega (arith, bk, low)); onward = with_token_onward (token_of p token) token work w es c q t l refl leads st few room f }
+        record {
+          data_cells = omega (arith, pk, lower);
+          return_cells = omega (arith, bk);
+          depth = tt;
+          executes = (let low = token_room (token_of p token) token work refl in omega (arith, bk, low));
+          onward = with_token_onward (token_of p token) token work w es c q t l refl leads st few room f;
+        }
 
     -- a word that is not a ?DUP before a flag
     table_moves : (word : Word) (work w : List Work) (es : List Entry) (c : List ℕ) (q : Stand) (t l : Place) → Leads e (table_effect word) (shape_after word) (At q) t → Inside base q (length c) es →
         execute_back p (IsWord word work) c ≡ 0 → Onward known heads main most return_most (word_step p word c es (here work es c)) → Step (IsWord word work) w es c
     table_moves word work w es c q t l leads st executes onward =
         let pk = peak (table_effect word) q leads.0 es c leads.2 st in
-        record { data_cells = omega (arith, pk, lower); return_cells = back (table_effect word) q leads.0 es c leads.2 st; depth = depth_fits word work c (omega (arith, pk, lower, limit)); executes = (let bk = back (table_effect word) q leads.0 es c leads.2 st in omega (arith, executes, bk)); onward = onward }
+        record {
+          data_cells = omega (arith, pk, lower);
+          return_cells = back (table_effect word) q leads.0 es c leads.2 st;
+          depth = depth_fits word work c (omega (arith, pk, lower, limit));
+          executes = (let bk = back (table_effect word) q leads.0 es c leads.2 st in omega (arith, executes, bk));
+          onward = onward;
+        }
 
-    word_at : (word : Word) (work w : List Work) (es : List Entry) (c : List ℕ) (q : Stand) (t l : Place) → Leads e (word_effect known.shared word) (shape_after word) (At q) t → Inside base q (length c) es → length c ≤ most → entries_height es ≤ e.back → From work t l → Step (IsWord word work) w es c
+    word_at : (word : Word) (work w : List Work) (es : List Entry) (c : List ℕ) (q : Stand) (t l : Place) →
+        Leads e (word_effect known.shared word) (shape_after word) (At q) t → Inside base q (length c) es → length c ≤ most → entries_height es ≤ e.back →
+        From work t l → Step (IsWord word work) w es c
     word_at Execute work w es c q t l leads st few room f = execute_moves work w es c q t l leads st few room f
     word_at ToR work w es c q t l leads st few room f = table_moves ToR work w es c q t l leads st refl (table_word ToR work w es c q t l leads st f)
     word_at word work w es c q t l leads st few room f = table_moves word work w es c q t l leads st refl (table_word word work w es c q t l leads st f)
@@ -367,7 +393,9 @@ module _ (p : SourceProgram) (known : Known) (heads : List (ℤ × ℤ)) (main :
     by_doubling Flag QDup b h = inr (sym h, refl)
     by_doubling next word b h = inl (sym h)
 
-    pub word_moves : (next : Next) (word : Word) (work w : List Work) (es : List Entry) (c : List ℕ) (place t l : Place) → WordLeads known heads e (doubles next word) word place t → Stood base place c es → length c ≤ most → entries_height es ≤ e.back → From work t l → Step (IsWord word work) w es c
+    pub word_moves : (next : Next) (word : Word) (work w : List Work) (es : List Entry) (c : List ℕ) (place t l : Place) →
+        WordLeads known heads e (doubles next word) word place t → Stood base place c es → length c ≤ most → entries_height es ≤ e.back → From work t l →
+        Step (IsWord word work) w es c
     word_moves next word work w es c Unreachable t l h st few room f = absurd st
     word_moves next word work w es c (At q) t l h st few room f =
         elim (by_doubling next word (doubles next word) refl) [

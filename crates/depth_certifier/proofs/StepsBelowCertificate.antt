@@ -11,7 +11,8 @@ use Rattle.depth_certifier.specs.declared.effect.CertCause.{CertCause}
 use Rattle.depth_certifier.specs.Place.{Shape, size, Stand, Place, Unreachable, At, Doubled, moved, InsideBy, BelowBy, Below, InLimits}
 use Rattle.depth_certifier.specs.Effects.{table_effect, moved_by, Known, effect_of, Next, called_effect, word_effect, keep}
 use Rattle.depth_certifier.specs.Certificate.{after, Leads, Doubles, Decides, without_loop, dropped, ExitHas, EndsBody, ExitIn, EffectIn, ExitKeeps, Limits, Keeps}
-use Rattle.depth_certifier.specs.Walk.{Walk, Walked, then_do, checked, in_limits, same_shape, need_at, peak_at, demanding, take_with, take_at, takes, double_at, decide_at, decides, with_exit, end_at, ends, zero_way, hull, join_at, joins, leave_at, back_to, returns_to, made}
+use Rattle.depth_certifier.specs.Walk.{Walk, Walked, then_do, checked, in_limits, same_shape, need_at, peak_at, demanding, take_with, take_at, takes, double_at}
+use Rattle.depth_certifier.specs.Walk.{decide_at, decides, with_exit, end_at, ends, zero_way, hull, join_at, joins, leave_at, back_to, returns_to, made}
 use Rattle.depth_certifier.proofs.SourcePlaces.{below_then}
 use Rattle.depth_certifier.proofs.Tests.{int_true_le, true_same_shape, need_within, peak_within, min_from, max_from, effect_in_same, HeadsIn}
 
@@ -52,7 +53,9 @@ limits_below : (a b : ℕ) (x y : Option (ℤ × ℤ)) (p q : Stand) (shape : Sh
 limits_below a b None y p q shape h i l = refl
 limits_below a b (Some x) None p q shape h i l = absurd h
 limits_below a b (Some x) (Some y) p q shape h i l =
-    and_from (int_le (negsuc 32) (p.low +ℤ x.0)) (int_le (p.high +ℤ x.1) (pos 33)) (int_true_le (negsuc 32) (p.low +ℤ x.0) (omega (arith, ints, h.0, i.low, l.0))) (int_true_le (p.high +ℤ x.1) (pos 33) (omega (arith, ints, h.1, i.high, l.1)))
+    and_from (int_le (negsuc 32) (p.low +ℤ x.0)) (int_le (p.high +ℤ x.1) (pos 33))
+    (int_true_le (negsuc 32) (p.low +ℤ x.0) (omega (arith, ints, h.0, i.low, l.0)))
+    (int_true_le (p.high +ℤ x.1) (pos 33) (omega (arith, ints, h.1, i.high, l.1)))
 
 pub dropped_below : (a b : ℕ) (s t : Place) → BelowBy a b s t → BelowBy a b (dropped s) (dropped t)
 dropped_below a b Unreachable t h = tt
@@ -80,7 +83,8 @@ module _ (lim : Limits) (e : Effect) (room : Keeps lim e) (hs : List (ℤ × ℤ
     pub is : r ≡ Ok walk
     pub rel : Rel a b c d k walk s l
 
-  pub found_from : (a b c d k : ℕ) (s l : Place) (a' b' c' d' k' : ℕ) (t l' : Place) (r : Walked) (go : Walk → Walked) → Found a b c d k r s l → ((v : Walk) → Rel a b c d k v s l → Found a' b' c' d' k' (go v) t l') → Found a' b' c' d' k' (then_do r go) t l'
+  pub found_from : (a b c d k : ℕ) (s l : Place) (a' b' c' d' k' : ℕ) (t l' : Place) (r : Walked) (go : Walk → Walked) → Found a b c d k r s l →
+      ((v : Walk) → Rel a b c d k v s l → Found a' b' c' d' k' (go v) t l') → Found a' b' c' d' k' (then_do r go) t l'
   found_from a b c d k s l a' b' c' d' k' t l' r go f each =
       let g = each f.walk f.rel in
       record { walk = g.walk; is = ap (λ x. then_do x go) f.is ∙ g.is; rel = g.rel }
@@ -92,7 +96,8 @@ module _ (lim : Limits) (e : Effect) (room : Keeps lim e) (hs : List (ℤ × ℤ
   found_as a b c d k k' r s l h f = subst (λ n. Found a b c d n r s l) h f
 
   module _ (a b c d k : ℕ) where
-    take_found : (x y : Effect) (change : Shape → Option Shape) (p : Stand) (s m l : Place) (w : Walk) → EffectIn x y → Leads e y change s m → BelowBy a b (At p) s → BelowBy c d w.leaves l → EffectIn (made w) e → length w.heads ≡ k → HeadsIn w.heads hs →
+    take_found : (x y : Effect) (change : Shape → Option Shape) (p : Stand) (s m l : Place) (w : Walk) → EffectIn x y → Leads e y change s m →
+        BelowBy a b (At p) s → BelowBy c d w.leaves l → EffectIn (made w) e → length w.heads ≡ k → HeadsIn w.heads hs →
         Found a b c d k (take_with lim x p (change p.shape) w) m l
     take_found x y change p Unreachable m l w h g i j u n o = absurd i
     take_found x y change p (Doubled q) m l w h g i j u n o = absurd g
@@ -106,7 +111,11 @@ module _ (lim : Limits) (e : Effect) (room : Keeps lim e) (hs : List (ℤ × ℤ
         let n1 : need_at x p ≤ e.need = need_within x.need e.need a p.low q.low (let v = allows.need in omega (arith, ints, h.need, v)) i.low in
         let n2 : peak_at x p ≤ e.peak = peak_within x.peak e.peak b p.high q.high (let v = allows.peak in omega (arith, ints, h.peak, v)) i.high in
         let n3 : max (size p.shape + x.back) (size sh) ≤ e.back = (let v = allows.back in let v' = allows.room in omega (arith, h.back, v, v', sums)) in
-        let t1 = and_from (nat_le (need_at x p) lim.need) (nat_le (peak_at x p) lim.peak && in_limits (after x.exit p p.shape)) (le-leb (need_at x p) lim.need (omega (arith, room.need))) (and_from (nat_le (peak_at x p) lim.peak) (in_limits (after x.exit p p.shape)) (le-leb (peak_at x p) lim.peak (omega (arith, room.peak))) (limits_below a b x.exit y.exit p q sh h.exit i ml)) in
+        let t1 =
+        and_from (nat_le (need_at x p) lim.need) (nat_le (peak_at x p) lim.peak && in_limits (after x.exit p p.shape))
+        (le-leb (need_at x p) lim.need (omega (arith, room.need)))
+        (and_from (nat_le (peak_at x p) lim.peak) (in_limits (after x.exit p p.shape)) (le-leb (peak_at x p) lim.peak (omega (arith, room.peak)))
+        (limits_below a b x.exit y.exit p q sh h.exit i ml)) in
         let t2 = le-leb (max (size p.shape + x.back) (size sh)) lim.back (omega (arith, room.back)) in
         let eff : EffectIn (record { need = max w.need (need_at x p); peak = max w.peak (peak_at x p); back = max w.back (max (size p.shape + x.back) (size sh)); exit = w.exit }) e =
         record { need = omega (arith, u.need); peak = omega (arith, u.peak); back = omega (arith, u.back); exit = u.exit } in
@@ -117,7 +126,8 @@ module _ (lim : Limits) (e : Effect) (room : Keeps lim e) (hs : List (ℤ × ℤ
           rel = record { place = nx; leaves = j; effect = eff; count = n; heads = o };
         })))
 
-    takes_at_found : (x y : Effect) (change : Shape → Option Shape) (q s m l : Place) (w : Walk) → EffectIn x y → Leads e y change s m → BelowBy a b q s → BelowBy c d w.leaves l → EffectIn (made w) e → length w.heads ≡ k → HeadsIn w.heads hs →
+    takes_at_found : (x y : Effect) (change : Shape → Option Shape) (q s m l : Place) (w : Walk) → EffectIn x y → Leads e y change s m → BelowBy a b q s →
+        BelowBy c d w.leaves l → EffectIn (made w) e → length w.heads ≡ k → HeadsIn w.heads hs →
         Found a b c d k (take_at lim x change q (record w { place = q })) m l
     takes_at_found x y change Unreachable s m l w h g i j u n o = record { walk = record w { place = Unreachable }; is = refl; rel = record { place = tt; leaves = j; effect = u; count = n; heads = o } }
     takes_at_found x y change (At p) s m l w h g i j u n o = take_found x y change p s m l (record w { place = At p }) h g i j u n o
@@ -139,7 +149,10 @@ module _ (lim : Limits) (e : Effect) (room : Keeps lim e) (hs : List (ℤ × ℤ
         let n2 : peak_at x p ≤ e.peak = peak_within x.peak e.peak b p.high q.high allows.peak i.high in
         let n3 : max (size p.shape + x.back) (size p.shape) ≤ e.back = (let v = allows.back in let v' = allows.room in omega (arith, v, v', sums)) in
         let t0 = and_from (int_le (negsuc 31) p.low) (int_le p.high (pos 33)) (int_true_le (negsuc 31) p.low (omega (arith, ints, i.low, il.0))) (int_true_le p.high (pos 33) (omega (arith, ints, i.high, il.1))) in
-        let t1 = and_from (nat_le (need_at x p) lim.need) (nat_le (peak_at x p) lim.peak && in_limits (Doubled p)) (le-leb (need_at x p) lim.need (omega (arith, room.need))) (and_from (nat_le (peak_at x p) lim.peak) (in_limits (Doubled p)) (le-leb (peak_at x p) lim.peak (omega (arith, room.peak))) t0) in
+        let t1 =
+        and_from (nat_le (need_at x p) lim.need) (nat_le (peak_at x p) lim.peak && in_limits (Doubled p))
+        (le-leb (need_at x p) lim.need (omega (arith, room.need)))
+        (and_from (nat_le (peak_at x p) lim.peak) (in_limits (Doubled p)) (le-leb (peak_at x p) lim.peak (omega (arith, room.peak))) t0) in
         let t2 = le-leb (max (size p.shape + x.back) (size p.shape)) lim.back (omega (arith, room.back)) in
         let eff : EffectIn (record { need = max w.need (need_at x p); peak = max w.peak (peak_at x p); back = max w.back (max (size p.shape + x.back) (size p.shape)); exit = w.exit }) e =
         record { need = omega (arith, u.need); peak = omega (arith, u.peak); back = omega (arith, u.back); exit = u.exit } in
@@ -149,7 +162,8 @@ module _ (lim : Limits) (e : Effect) (room : Keeps lim e) (hs : List (ℤ × ℤ
           rel = record { place = subst (λ z. BelowBy a b (Doubled p) z) (sym g.1) i; leaves = j; effect = eff; count = n; heads = o };
         }))
 
-    pub double_at_found : (q s m l : Place) (w : Walk) → Doubles e s m → BelowBy a b q s → BelowBy c d w.leaves l → EffectIn (made w) e → length w.heads ≡ k → HeadsIn w.heads hs → Found a b c d k (double_at lim q (record w { place = q })) m l
+    pub double_at_found : (q s m l : Place) (w : Walk) → Doubles e s m → BelowBy a b q s → BelowBy c d w.leaves l → EffectIn (made w) e → length w.heads ≡ k →
+        HeadsIn w.heads hs → Found a b c d k (double_at lim q (record w { place = q })) m l
     double_at_found Unreachable s m l w g i j u n o = record { walk = record w { place = Unreachable }; is = refl; rel = record { place = tt; leaves = j; effect = u; count = n; heads = o } }
     double_at_found (At p) Unreachable m l w g i j u n o = absurd i
     double_at_found (At p) (Doubled q) m l w g i j u n o = absurd i
@@ -163,7 +177,8 @@ module _ (lim : Limits) (e : Effect) (room : Keeps lim e) (hs : List (ℤ × ℤ
       pub found : Found a b c d k r on_true l
       pub zero : BelowBy a b (zero_way from found.walk.place) on_false
 
-    decide_found : (q s on_true on_false l : Place) (w : Walk) → Decides e s on_true on_false → BelowBy a b q s → BelowBy c d w.leaves l → EffectIn (made w) e → length w.heads ≡ k → HeadsIn w.heads hs → Split (decide_at lim q (record w { place = q })) q on_true on_false l
+    decide_found : (q s on_true on_false l : Place) (w : Walk) → Decides e s on_true on_false → BelowBy a b q s → BelowBy c d w.leaves l → EffectIn (made w) e →
+        length w.heads ≡ k → HeadsIn w.heads hs → Split (decide_at lim q (record w { place = q })) q on_true on_false l
     decide_found Unreachable s on_true on_false l w g i j u n o = record { found = record { walk = record w { place = Unreachable }; is = refl; rel = record { place = tt; leaves = j; effect = u; count = n; heads = o } }; zero = tt }
     decide_found (At p) Unreachable on_true on_false l w g i j u n o = absurd i
     decide_found (At p) (Doubled q) on_true on_false l w g i j u n o = absurd i
@@ -211,7 +226,8 @@ module _ (lim : Limits) (e : Effect) (room : Keeps lim e) (hs : List (ℤ × ℤ
     joins_found s t l w h r = joins_at_found s w.place t l w h r.place r.leaves r.effect r.count r.heads
 
     -- the back edge lies inside the walk's own head: it keeps the head's distance to that of the certificate
-    back_at_found : (q h : Stand) (n m l : Place) (w : Walk) → q.low ≡ (h.low +ℤ pos a) → (q.high +ℤ pos b) ≡ h.high → q.shape ≡ h.shape → BelowBy a b n (At h) → BelowBy a b n m → BelowBy c d w.leaves l → EffectIn (made w) e → length w.heads ≡ k → HeadsIn w.heads hs →
+    back_at_found : (q h : Stand) (n m l : Place) (w : Walk) → q.low ≡ (h.low +ℤ pos a) → (q.high +ℤ pos b) ≡ h.high → q.shape ≡ h.shape →
+        BelowBy a b n (At h) → BelowBy a b n m → BelowBy c d w.leaves l → EffectIn (made w) e → length w.heads ≡ k → HeadsIn w.heads hs →
         Found a b c d k (back_to (At q) n (record w { place = n })) m l
     back_at_found q h Unreachable m l w u v x i i' j y n o = record { walk = record w { place = Unreachable }; is = refl; rel = record { place = i'; leaves = j; effect = y; count = n; heads = o } }
     back_at_found q h (Doubled r) m l w u v x i i' j y n o = absurd i
@@ -245,7 +261,8 @@ module _ (lim : Limits) (e : Effect) (room : Keeps lim e) (hs : List (ℤ × ℤ
         rel = record { place = tt; leaves = record { low = min_from c p.low r.low q.low i.low j.low; high = max_from d p.high r.high q.high i.high j.high; same = j.same }; effect = u; count = n; heads = o };
       }))
 
-  pub leave_at_found : (c d k : ℕ) (top : Option Shape) (p r l : Place) (w : Walk) → TopIs top l → (m : Place) → BelowBy c d p m → Below m l → ((q : Stand) → m ≡ Doubled q → ⊥) → BelowBy c d r l → EffectIn (made w) e → length w.heads ≡ k → HeadsIn w.heads hs →
+  pub leave_at_found : (c d k : ℕ) (top : Option Shape) (p r l : Place) (w : Walk) → TopIs top l → (m : Place) → BelowBy c d p m → Below m l →
+      ((q : Stand) → m ≡ Doubled q → ⊥) → BelowBy c d r l → EffectIn (made w) e → length w.heads ≡ k → HeadsIn w.heads hs →
       Found 0 0 c d k (leave_at top p r (record w { place = p; leaves = r })) Unreachable l
   leave_at_found c d k top Unreachable r l w h m i i' never j u n o = record { walk = record w { place = Unreachable; leaves = r }; is = refl; rel = record { place = tt; leaves = j; effect = u; count = n; heads = o } }
   leave_at_found c d k top (At p) r l w h Unreachable i i' never j u n o = absurd i

@@ -12,7 +12,9 @@ use Rattle.forth_program.specs.State.{Entry, Cell, Loop, Work, Todo, UntilTest, 
 use Rattle.forth_program.specs.Program.{SourceProgram, body_of}
 use Rattle.forth_program.specs.ByteWords.{type_out}
 use Rattle.forth_program.specs.Step.{called as begun}
-use Rattle.forth_program.specs.Step.{First, BodyEnd, IsCall, IsChild, IsText, IsIf, IsTrueEnd, IsUntil, IsWhile, IsRepeat, IsAgain, IsDo, IsQDo, IsTurn, IsOf, IsEndOf, IsEndCase, IsLeave, IsExit, before, text_step, on_flag, closed_by, crosses, turned, leave, after_loop, unwound, act}
+use Rattle.forth_program.specs.Step.{First, BodyEnd, IsCall, IsChild, IsText, IsIf, IsTrueEnd, IsUntil, IsWhile, IsRepeat, IsAgain, IsDo, IsQDo, IsTurn, IsOf}
+use Rattle.forth_program.specs.Step.{IsEndOf, IsEndCase, IsLeave, IsExit, before, text_step, on_flag, closed_by, crosses, turned, leave, after_loop, unwound}
+use Rattle.forth_program.specs.Step.{act}
 use Rattle.depth_certifier.specs.declared.effect.Effect.{Effect}
 use Rattle.depth_certifier.specs.Place.{OfCell, OfLoop, Shape, Stand, Place, Unreachable, At, Doubled, entry, Below, from_zero}
 use Rattle.depth_certifier.specs.Effects.{table_effect, branch_next, Known, effect_of, Next, Return, Flag, More, called_effect, keep, push_loop, turn_word, text_word, of_effect}
@@ -64,7 +66,8 @@ module _ (p : SourceProgram) (known : Known) (heads : List (ℤ × ℤ)) (main :
 
   -- ---- flags
 
-  flag_onward : (at_zero other w : List Work) (es : List Entry) (c : List ℕ) (place on_true on_false l : Place) → Decides e place on_true on_false → Stood base place c es → length c ≤ most → entries_height es ≤ e.back → From at_zero on_false l → From other on_true l →
+  flag_onward : (at_zero other w : List Work) (es : List Entry) (c : List ℕ) (place on_true on_false l : Place) → Decides e place on_true on_false →
+      Stood base place c es → length c ≤ most → entries_height es ≤ e.back → From at_zero on_false l → From other on_true l →
       Onward known heads main most return_most (on_flag c at_zero other (here w es c))
   flag_onward at_zero other w es c Unreachable on_true on_false l d st few room f g = absurd st
   flag_onward at_zero other w es [] (At q) on_true on_false l d st few room f g = absurd (let n = need (table_effect table.If) q d.0.0 es [] d.0.2 st in omega (arith, n))
@@ -86,7 +89,9 @@ module _ (p : SourceProgram) (known : Known) (heads : List (ℤ × ℤ)) (main :
   one_way (At q) t h = (h, refl)
   one_way (Doubled q) t h = absurd h
 
-  pub if_moves : (first second : Nodes) (work w : List Work) (es : List Entry) (c : List ℕ) (place l : Place) → WorkLeads known heads e (Todo (If first second) ∷ work) place l → Stood base place c es → length c ≤ most → entries_height es ≤ e.back → Step (IsIf first second work) w es c
+  pub if_moves : (first second : Nodes) (work w : List Work) (es : List Entry) (c : List ℕ) (place l : Place) →
+      WorkLeads known heads e (Todo (If first second) ∷ work) place l → Stood base place c es → length c ≤ most → entries_height es ≤ e.back →
+      Step (IsIf first second work) w es c
   if_moves first second work w es c place l f st few room =
       let i = f.4 in
       let on_end : From work f.3 l = (f.5, f.6, f.7) in
@@ -98,7 +103,9 @@ module _ (p : SourceProgram) (known : Known) (heads : List (ℤ × ℤ)) (main :
   pub true_end_moves : (work w : List Work) (es : List Entry) (c : List ℕ) (place l : Place) → WorkLeads known heads e work place l → Stood base place c es → length c ≤ most → entries_height es ≤ e.back → Step (IsTrueEnd work) w es c
   true_end_moves work w es c place l f st few room = quiet (IsTrueEnd work) w es c refl refl tt refl few room (on work es c place l (place, below_same place, f) st few room)
 
-  pub until_moves : (body : Nodes) (work w : List Work) (es : List Entry) (c : List ℕ) (place l : Place) → WorkLeads known heads e (UntilTest body ∷ work) place l → Stood base place c es → length c ≤ most → entries_height es ≤ e.back → Step (IsUntil body work) w es c
+  pub until_moves : (body : Nodes) (work w : List Work) (es : List Entry) (c : List ℕ) (place l : Place) →
+      WorkLeads known heads e (UntilTest body ∷ work) place l → Stood base place c es → length c ≤ most → entries_height es ≤ e.back →
+      Step (IsUntil body work) w es c
   until_moves body work w es c place l f st few room =
       let u = f.2 in
       quiet (IsUntil body work) w es c refl refl tt refl few room
@@ -106,7 +113,9 @@ module _ (p : SourceProgram) (known : Known) (heads : List (ℤ × ℤ)) (main :
       (from_more known heads e (before body (UntilTest body ∷ work)) f.1 f.0 l u.again (enter known heads e More body (u.k + 1) f.0 l place (UntilTest body ∷ work) u.items refl (place, below_same place, f)))
       (f.3, f.4, f.5))
 
-  pub while_moves : (test body : Nodes) (work w : List Work) (es : List Entry) (c : List ℕ) (place l : Place) → WorkLeads known heads e (WhileTest test body ∷ work) place l → Stood base place c es → length c ≤ most → entries_height es ≤ e.back → Step (IsWhile test body work) w es c
+  pub while_moves : (test body : Nodes) (work w : List Work) (es : List Entry) (c : List ℕ) (place l : Place) →
+      WorkLeads known heads e (WhileTest test body ∷ work) place l → Stood base place c es → length c ≤ most → entries_height es ≤ e.back →
+      Step (IsWhile test body work) w es c
   while_moves test body work w es c place l f st few room =
       let u = f.4 in
       quiet (IsWhile test body work) w es c refl refl tt refl few room
@@ -114,12 +123,16 @@ module _ (p : SourceProgram) (known : Known) (heads : List (ℤ × ℤ)) (main :
       (f.5, f.6, f.7)
       (enter known heads e More body (u.k + 1 + loops test) f.1 l f.2 (Repeat test body ∷ work) u.items refl (f.2, below_same f.2, (f.0, place, f.1, f.3, u, f.5, f.6, f.7))))
 
-  pub repeat_moves : (test body : Nodes) (work w : List Work) (es : List Entry) (c : List ℕ) (place l : Place) → WorkLeads known heads e (Repeat test body ∷ work) place l → Stood base place c es → length c ≤ most → entries_height es ≤ e.back → Step (IsRepeat test body work) w es c
+  pub repeat_moves : (test body : Nodes) (work w : List Work) (es : List Entry) (c : List ℕ) (place l : Place) →
+      WorkLeads known heads e (Repeat test body ∷ work) place l → Stood base place c es → length c ≤ most → entries_height es ≤ e.back →
+      Step (IsRepeat test body work) w es c
   repeat_moves test body work w es c place l f st few room =
       let u = f.4 in
       quiet (IsRepeat test body work) w es c refl refl tt refl few room
       (on (before test (WhileTest test body ∷ work)) es c place l
-      (from_more known heads e (before test (WhileTest test body ∷ work)) place f.0 l u.again (enter known heads e Flag test (u.k + 1) f.0 l f.1 (WhileTest test body ∷ work) u.test_items refl (f.1, below_same f.1, (f.0, f.2, place, f.3, u, f.5, f.6, f.7))))
+      (from_more known heads e (before test (WhileTest test body ∷ work)) place f.0 l u.again
+      (enter known heads e Flag test (u.k + 1) f.0 l f.1 (WhileTest test body ∷ work) u.test_items refl
+      (f.1, below_same f.1, (f.0, f.2, place, f.3, u, f.5, f.6, f.7))))
       st few room)
 
   -- ---- loops
@@ -152,7 +165,8 @@ module _ (p : SourceProgram) (known : Known) (heads : List (ℤ × ℤ)) (main :
     end_on_loop h (Doubled o) same q r is on = tt
     end_on_loop h (At o) same q r is on = let same' : r.shape ≡ o.shape = subst (λ z. SameShape z (At o)) is same in (q.shape, sym same' ∙ on)
 
-    loop_turns : (body : Nodes) (plus : Bool) (q : Stand) (k : ℕ) (i h l m n : Place) → Leads e x push_loop (At q) i → Head heads k i h → SameShape h l → Fits known heads e More body (k + 1) h l m → Leads e (table_effect (turn_word plus)) keep m n →
+    loop_turns : (body : Nodes) (plus : Bool) (q : Stand) (k : ℕ) (i h l m n : Place) → Leads e x push_loop (At q) i → Head heads k i h → SameShape h l →
+        Fits known heads e More body (k + 1) h l m → Leads e (table_effect (turn_word plus)) keep m n →
         Below n h → Below n l → DoTurns known heads e body plus l h m n
     loop_turns body plus q k i h l m n leads head same items turn again out =
         let at = head_at q i h leads k head in
@@ -164,7 +178,8 @@ module _ (p : SourceProgram) (known : Known) (heads : List (ℤ × ℤ)) (main :
     begun_at q i start limit es c leads st =
         reach x push_loop q i (suc (suc (length c))) es (Loop limit start ∷ es) c leads st (subst (λ y. LeavesWithin y (suc (suc (length c))) (length c)) (sym takes_two) (changes 2 0 (suc (suc (length c))) (length c) (omega arith))) refl
 
-    loop_onward : (body : Nodes) (plus : Bool) (work : List Work) (es : List Entry) (c : List ℕ) (start limit : ℕ) (q : Stand) (k : ℕ) (i h l m n outer : Place) → Leads e x push_loop (At q) i → Head heads k i h → DoTurns known heads e body plus l h m n →
+    loop_onward : (body : Nodes) (plus : Bool) (work : List Work) (es : List Entry) (c : List ℕ) (start limit : ℕ) (q : Stand) (k : ℕ)
+        (i h l m n outer : Place) → Leads e x push_loop (At q) i → Head heads k i h → DoTurns known heads e body plus l h m n →
         Fits known heads e More body (k + 1) h l m → From work (dropped l) outer → Inside base q (suc (suc (length c))) es → suc (suc (length c)) ≤ most →
         KeepsFrames known heads main most return_most (here (before body (Turn body plus ∷ work)) (Loop limit start ∷ es) c)
     loop_onward body plus work es c start limit q k i h l m n outer leads head turns items out st few =
@@ -174,7 +189,9 @@ module _ (p : SourceProgram) (known : Known) (heads : List (ℤ × ℤ)) (main :
         (enter known heads e More body (k + 1) h l m (Turn body plus ∷ work) items refl (m, below_same m, (h, n, turns, outer, out.0, out.1, out.2))))
         r.stood (omega (arith, few)) r.room
 
-  pub do_moves : (body : Nodes) (plus : Bool) (work w : List Work) (es : List Entry) (c : List ℕ) (place l : Place) → WorkLeads known heads e (Todo (Do body plus) ∷ work) place l → Stood base place c es → length c ≤ most → entries_height es ≤ e.back → Step (IsDo body plus work) w es c
+  pub do_moves : (body : Nodes) (plus : Bool) (work w : List Work) (es : List Entry) (c : List ℕ) (place l : Place) →
+      WorkLeads known heads e (Todo (Do body plus) ∷ work) place l → Stood base place c es → length c ≤ most → entries_height es ≤ e.back →
+      Step (IsDo body plus work) w es c
   do_moves body plus work w es c Unreachable l f st few room = absurd st
   do_moves body plus work w es c (Doubled q) l f st few room = absurd f.4.1
   do_moves body plus work w es [] (At q) l f st few room = absurd (let n = need (table_effect table.Do) q f.4.1.0 es [] f.4.1.2 st in omega (arith, n))
@@ -204,7 +221,9 @@ module _ (p : SourceProgram) (known : Known) (heads : List (ℤ × ℤ)) (main :
   dropped_below (Doubled p) t h = tt
 
   -- ?DO goes into the loop or leaves it out
-  pub query_do_moves : (body : Nodes) (plus : Bool) (work w : List Work) (es : List Entry) (c : List ℕ) (place l : Place) → WorkLeads known heads e (Todo (QDo body plus) ∷ work) place l → Stood base place c es → length c ≤ most → entries_height es ≤ e.back → Step (IsQDo body plus work) w es c
+  pub query_do_moves : (body : Nodes) (plus : Bool) (work w : List Work) (es : List Entry) (c : List ℕ) (place l : Place) →
+      WorkLeads known heads e (Todo (QDo body plus) ∷ work) place l → Stood base place c es → length c ≤ most → entries_height es ≤ e.back →
+      Step (IsQDo body plus work) w es c
   query_do_moves body plus work w es c Unreachable l f st few room = absurd st
   query_do_moves body plus work w es c (Doubled q) l f st few room = absurd f.4.1
   query_do_moves body plus work w es [] (At q) l f st few room = absurd (let n = need (table_effect table.QDo) q f.4.1.0 es [] f.4.1.2 st in omega (arith, n))
@@ -229,7 +248,9 @@ module _ (p : SourceProgram) (known : Known) (heads : List (ℤ × ℤ)) (main :
             (loop_onward (table_effect table.QDo) refl body plus work es c start limit q f.2 i g.2 x g.6 g.8 l g.1 g.3 turns g.7 out st few);
       }
 
-  pub again_moves : (body : Nodes) (work w : List Work) (es : List Entry) (c : List ℕ) (place l : Place) → WorkLeads known heads e (BeginAgain body ∷ work) place l → Stood base place c es → length c ≤ most → entries_height es ≤ e.back → Step (IsAgain body work) w es c
+  pub again_moves : (body : Nodes) (work w : List Work) (es : List Entry) (c : List ℕ) (place l : Place) →
+      WorkLeads known heads e (BeginAgain body ∷ work) place l → Stood base place c es → length c ≤ most → entries_height es ≤ e.back →
+      Step (IsAgain body work) w es c
   again_moves body work w es c place l f st few room =
       let u = f.1 in
       quiet (IsAgain body work) w es c refl refl tt refl few room
@@ -239,7 +260,8 @@ module _ (p : SourceProgram) (known : Known) (heads : List (ℤ × ℤ)) (main :
 
   -- ---- cases
 
-  pub of_moves : (body : Nodes) (others : Arms) (rest : Nodes) (work w : List Work) (es : List Entry) (c : List ℕ) (place l : Place) → WorkLeads known heads e (OfTest body others rest ∷ work) place l → Stood base place c es → length c ≤ most → entries_height es ≤ e.back →
+  pub of_moves : (body : Nodes) (others : Arms) (rest : Nodes) (work w : List Work) (es : List Entry) (c : List ℕ) (place l : Place) →
+      WorkLeads known heads e (OfTest body others rest ∷ work) place l → Stood base place c es → length c ≤ most → entries_height es ≤ e.back →
       Step (IsOf body others rest work) w es c
   of_moves body others rest work w es c Unreachable l f st few room = absurd st
   of_moves body others rest work w es c (Doubled q) l f st few room = absurd f.3.to_other
@@ -263,7 +285,8 @@ module _ (p : SourceProgram) (known : Known) (heads : List (ℤ × ℤ)) (main :
   pub end_of_moves : (work w : List Work) (es : List Entry) (c : List ℕ) (place l : Place) → WorkLeads known heads e work place l → Stood base place c es → length c ≤ most → entries_height es ≤ e.back → Step (IsEndOf work) w es c
   end_of_moves work w es c place l f st few room = quiet (IsEndOf work) w es c refl refl tt refl few room (on work es c place l (place, below_same place, f) st few room)
 
-  pub end_case_moves : (work w : List Work) (es : List Entry) (c : List ℕ) (place l : Place) → WorkLeads known heads e (EndCase ∷ work) place l → Stood base place c es → length c ≤ most → entries_height es ≤ e.back → Step (IsEndCase work) w es c
+  pub end_case_moves : (work w : List Work) (es : List Entry) (c : List ℕ) (place l : Place) → WorkLeads known heads e (EndCase ∷ work) place l →
+      Stood base place c es → length c ≤ most → entries_height es ≤ e.back → Step (IsEndCase work) w es c
   end_case_moves work w es c Unreachable l f st few room = absurd st
   end_case_moves work w es c (Doubled q) l f st few room = absurd f.1
   end_case_moves work w es [] (At q) l f st few room = absurd (let n = need (table_effect table.EndCase) q f.1.0 es [] f.1.2 st in omega (arith, n))
@@ -272,7 +295,8 @@ module _ (p : SourceProgram) (known : Known) (heads : List (ℤ × ℤ)) (main :
       quiet (IsEndCase work) w es (x ∷ c) refl refl tt refl few room (on work es c f.0 l (f.2, f.3, f.4) r.stood (omega (arith, few)) room)
 
   -- the end of a turn: out of the loop, or again
-  turned_onward : (body : Nodes) (plus : Bool) (step : ℕ) (work w : List Work) (es : List Entry) (c : List ℕ) (n : Stand) (h l outer : Place) → Below (At n) h → Below (At n) l → OnLoop h → OnLoop l → From (before body (Turn body plus ∷ work)) h l → From work (dropped l) outer →
+  turned_onward : (body : Nodes) (plus : Bool) (step : ℕ) (work w : List Work) (es : List Entry) (c : List ℕ) (n : Stand) (h l outer : Place) → Below (At n) h →
+      Below (At n) l → OnLoop h → OnLoop l → From (before body (Turn body plus ∷ work)) h l → From work (dropped l) outer →
       Inside base n (length c) es → length c ≤ most → entries_height es ≤ e.back → Onward known heads main most return_most (turned step body plus work es (here w es c))
   turned_onward body plus step work w es c n Unreachable l outer bh bl oh ol again out st few room = absurd bh
   turned_onward body plus step work w es c n (Doubled h) l outer bh bl oh ol again out st few room = absurd bh
@@ -287,7 +311,9 @@ module _ (p : SourceProgram) (known : Known) (heads : List (ℤ × ℤ)) (main :
       (on (before body (Turn body plus ∷ work)) (Loop limit (sum_of index step) ∷ es) c (At h) (At l) again
       (record { low = (let x = bh.low in omega (arith, ints, x, st.low)); high = (let x = bh.high in omega (arith, ints, x, st.high)); same = st.same ∙ bh.same }) few room)
 
-  pub turn_moves : (body : Nodes) (plus : Bool) (work w : List Work) (es : List Entry) (c : List ℕ) (place l : Place) → WorkLeads known heads e (Turn body plus ∷ work) place l → Stood base place c es → length c ≤ most → entries_height es ≤ e.back → Step (IsTurn body plus work) w es c
+  pub turn_moves : (body : Nodes) (plus : Bool) (work w : List Work) (es : List Entry) (c : List ℕ) (place l : Place) →
+      WorkLeads known heads e (Turn body plus ∷ work) place l → Stood base place c es → length c ≤ most → entries_height es ≤ e.back →
+      Step (IsTurn body plus work) w es c
   turn_moves body plus work w es c Unreachable l f st few room = absurd st
   turn_moves body plus work w es c (Doubled q) l f st few room = absurd f.2.turn
   turn_moves body false work w es c (At q) l f st few room =
@@ -333,9 +359,15 @@ module _ (p : SourceProgram) (known : Known) (heads : List (ℤ × ℤ)) (main :
       by_entries (Cell value ∷ es) out st room = (let i : OfCell ∷ shape_of es ≡ OfLoop ∷ out.on_loop.0 = st.same ∙ b.same ∙ out.on_loop.1 in cc (i))
       by_entries (Loop limit index ∷ es) out st room =
           on (after_loop work) es c (dropped (At l)) out.outer (out.place, out.below, out.leads)
-          (drop_loop (At l) limit index es c out.on_loop (record { low = (let x = b.low in omega (arith, ints, x, st.low)); high = (let x = b.high in omega (arith, ints, x, st.high)); same = st.same ∙ b.same }) l refl) few (omega (arith, room))
+          (drop_loop (At l) limit index es c out.on_loop
+          (record {
+            low = (let x = b.low in omega (arith, ints, x, st.low));
+            high = (let x = b.high in omega (arith, ints, x, st.high));
+            same = st.same ∙ b.same;
+          }) l refl) few (omega (arith, room))
 
-  pub leave_moves : (work w : List Work) (es : List Entry) (c : List ℕ) (place l : Place) → WorkLeads known heads e (Todo Leave ∷ work) place l → Stood base place c es → length c ≤ most → entries_height es ≤ e.back → Step (IsLeave work) w es c
+  pub leave_moves : (work w : List Work) (es : List Entry) (c : List ℕ) (place l : Place) → WorkLeads known heads e (Todo Leave ∷ work) place l →
+      Stood base place c es → length c ≤ most → entries_height es ≤ e.back → Step (IsLeave work) w es c
   leave_moves work w es c Unreachable l f st few room = absurd st
   leave_moves work w es c (Doubled q) l f st few room = absurd f.4.1
   leave_moves work w es c (At q) l f st few room =
@@ -377,8 +409,21 @@ module _ (p : SourceProgram) (known : Known) (heads : List (ℤ × ℤ)) (main :
       zero_base : (base : ℕ) (top : ℤ) → base ≡ 0 → pos (length c) ≤ℤ (pos base +ℤ top) → pos (length c) ≤ℤ top
       zero_base base top z i = omega (arith, ints, z, i)
   ends_onward (frame ∷ cs) es w c q b h st few =
-      let wait = b.2 in
-      (omega (arith, few, lower), record { effect = b.0; base = b.1; place = wait.place; loop_end = wait.loop_end; leads = wait.leads; stood = returned e.exit q c [] wait.place b.1 frame.entries h st wait.returns; bounds = wait.bounds; callers = b.3; few = few; room = wait.room })
+      let wait = b.2 in (
+        omega (arith, few, lower),
+        record {
+          effect = b.0;
+          base = b.1;
+          place = wait.place;
+          loop_end = wait.loop_end;
+          leads = wait.leads;
+          stood = returned e.exit q c [] wait.place b.1 frame.entries h st wait.returns;
+          bounds = wait.bounds;
+          callers = b.3;
+          few = few;
+          room = wait.room;
+        },
+      )
 
   end_facts : (es : List Entry) (w : List Work) (c : List ℕ) (place : Place) → EndsBody e place → Stood base place c es → length c ≤ most →
       (es ≡ []) × (length c + end_peak callers ≤ high) × Onward known heads main most return_most (unwound es callers (here w es c))
@@ -401,7 +446,8 @@ module _ (p : SourceProgram) (known : Known) (heads : List (ℤ × ℤ)) (main :
 
   -- ---- the string words
 
-  pub text_moves : (kind : TextKind) (address size' : ℕ) (work w : List Work) (es : List Entry) (c : List ℕ) (place t l : Place) → Leads e (table_effect (text_word kind)) keep place t → Stood base place c es → length c ≤ most → entries_height es ≤ e.back → From work t l →
+  pub text_moves : (kind : TextKind) (address size' : ℕ) (work w : List Work) (es : List Entry) (c : List ℕ) (place t l : Place) →
+      Leads e (table_effect (text_word kind)) keep place t → Stood base place c es → length c ≤ most → entries_height es ≤ e.back → From work t l →
       Step (IsText kind address size' work) w es c
   text_moves kind address size' work w es c Unreachable t l leads st few room f = absurd st
   text_moves kind address size' work w es c (Doubled q) t l leads st few room f = absurd leads
@@ -420,7 +466,8 @@ module _ (p : SourceProgram) (known : Known) (heads : List (ℤ × ℤ)) (main :
       text_back_is text.Print = refl
       text_back_is text.Abort = refl
 
-      by : (kind : TextKind) (c : List ℕ) → Leads e (table_effect (text_word kind)) keep (At q) t → Inside base q (length c) es → length c ≤ most → length c + (table_effect (text_word kind)).peak ≤ most → Onward known heads main most return_most (text_step kind address size' c (here work es c))
+      by : (kind : TextKind) (c : List ℕ) → Leads e (table_effect (text_word kind)) keep (At q) t → Inside base q (length c) es → length c ≤ most →
+          length c + (table_effect (text_word kind)).peak ≤ most → Onward known heads main most return_most (text_step kind address size' c (here work es c))
       by text.Address c leads st few pk =
           let r = reach (table_effect table.SQuote) keep q t (length c) es es (size' ∷ address ∷ c) leads st (changes 0 2 (length c) (suc (suc (length c))) (omega arith)) refl in
           on work es (size' ∷ address ∷ c) t l f r.stood (omega (arith, pk)) r.room
@@ -443,7 +490,9 @@ module _ (p : SourceProgram) (known : Known) (heads : List (ℤ × ℤ)) (main :
   -- ---- calls
 
   module _ (bodies : (d : ℕ) → (k : ℕ) × BodyFits known heads (effect_of known d) (body_of p d) k) (limits : (d : ℕ) → ((effect_of known d).need ≤ 33) × ((effect_of known d).peak ≤ 33)) where
-    call_onward : (d : ℕ) (next : Next) (work w : List Work) (es : List Entry) (c : List ℕ) (q : Stand) (t l : Place) → Matches next work → Leads e (called_effect next (effect_of known d)) keep (At q) t → Inside base q (length c) es → length c ≤ most → entries_height es ≤ e.back → From work t l →
+    call_onward : (d : ℕ) (next : Next) (work w : List Work) (es : List Entry) (c : List ℕ) (q : Stand) (t l : Place) → Matches next work →
+        Leads e (called_effect next (effect_of known d)) keep (At q) t → Inside base q (length c) es → length c ≤ most → entries_height es ≤ e.back →
+        From work t l →
         KeepsFrames known heads main most return_most (begun p d (here work es c))
     call_onward d next work w es c q t l m leads st few room f =
         let x = effect_of known d in
@@ -463,12 +512,16 @@ module _ (p : SourceProgram) (known : Known) (heads : List (ℤ × ℤ)) (main :
         (enter known heads x Return (body_of p d) body.0 (At entry) Unreachable body.1.0 [] body.1.1 refl (body.1.0, below_same body.1.0, (body.1.2, refl)))
         (record { low = omega (arith, ints); high = omega (arith, ints); same = refl }) few (omega arith)
 
-    pub call_moves : (d : ℕ) (next : Next) (work w : List Work) (es : List Entry) (c : List ℕ) (place t l : Place) → Matches next work → Leads e (called_effect next (effect_of known d)) keep place t → Stood base place c es → length c ≤ most → entries_height es ≤ e.back → From work t l → Step (IsCall d work) w es c
+    pub call_moves : (d : ℕ) (next : Next) (work w : List Work) (es : List Entry) (c : List ℕ) (place t l : Place) → Matches next work →
+        Leads e (called_effect next (effect_of known d)) keep place t → Stood base place c es → length c ≤ most → entries_height es ≤ e.back → From work t l →
+        Step (IsCall d work) w es c
     call_moves d next work w es c Unreachable t l m leads st few room f = absurd st
     call_moves d next work w es c (Doubled q) t l m leads st few room f = absurd leads
     call_moves d next work w es c (At q) t l m leads st few room f = quiet (IsCall d work) w es c refl refl tt refl few room (call_onward d next work w es c q t l m leads st few room f)
 
-    pub child_moves : (d a : ℕ) (next : Next) (work w : List Work) (es : List Entry) (c : List ℕ) (place m t l : Place) → Matches next work → Leads e (table_effect table.Literal) keep place m → Leads e (called_effect next (effect_of known d)) keep m t → Stood base place c es → length c ≤ most → entries_height es ≤ e.back → From work t l →
+    pub child_moves : (d a : ℕ) (next : Next) (work w : List Work) (es : List Entry) (c : List ℕ) (place m t l : Place) → Matches next work →
+        Leads e (table_effect table.Literal) keep place m → Leads e (called_effect next (effect_of known d)) keep m t → Stood base place c es →
+        length c ≤ most → entries_height es ≤ e.back → From work t l →
         Step (IsChild d a work) w es c
     child_moves d a next work w es c Unreachable m t l ma literal leads st few room f = absurd st
     child_moves d a next work w es c (Doubled q) m t l ma literal leads st few room f = absurd literal

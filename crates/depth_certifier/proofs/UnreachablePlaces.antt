@@ -76,7 +76,8 @@ module _ (hs : List (ℤ × ℤ)) where
       item_none (If first second) top next w e =
           let f = walk_none first top (branch_next next) w (less (length w.heads + (loops first + loops second)) (length w.heads + loops first) (omega arith) e) in
           let g = walk_none second top (branch_next next) (record w { heads = f.heads }) (less (length w.heads + (loops first + loops second)) (length f.heads + loops second) (let c = f.count in omega (arith, c)) e) in
-          passes_on w (loops first) (loops second) (walk limits known given top (branch_next next) first (unreached w)) (λ i. then_do (walk limits known given top (branch_next next) second (record i { place = Unreachable })) (λ j. joins i.place j)) f
+          passes_on w (loops first) (loops second) (walk limits known given top (branch_next next) first (unreached w))
+          (λ i. then_do (walk limits known given top (branch_next next) second (record i { place = Unreachable })) (λ j. joins i.place j)) f
           (record { heads = g.heads; is = ap (λ r. then_do r (λ j. joins Unreachable j)) g.is; count = g.count; within = g.within })
       item_none (Until body) top next w e =
           let h = enters_none w (less (length w.heads + (1 + loops body)) (length w.heads + 1) (omega arith) e) in
@@ -89,8 +90,20 @@ module _ (hs : List (ℤ × ℤ)) where
           let f = walk_none test top Flag (record w { heads = h.heads }) (less all (length h.heads + loops test) (let c = h.count in omega (arith, c)) e) in
           let g = walk_none body top More (record w { heads = f.heads }) (less all (length f.heads + loops body) (let c = h.count in let c' = f.count in omega (arith, c, c')) e) in
           passes_as w (1 + (loops test + loops body)) (1 + loops test + loops body) _ (omega arith)
-          (passes_on w 1 (loops test + loops body) (enters given (unreached w)) (λ h. then_do (walk limits known given top Flag test h) (λ m. then_do (decides limits m) (λ y. then_do (walk limits known given top More body y) (λ n. then_do (returns_to h.place n) (λ o. Ok (record o { place = zero_way m.place y.place })))))) h
-          (passes_on (record w { heads = h.heads }) (loops test) (loops body) (walk limits known given top Flag test (unreached (record w { heads = h.heads }))) (λ m. then_do (decides limits m) (λ y. then_do (walk limits known given top More body y) (λ n. then_do (returns_to Unreachable n) (λ o. Ok (record o { place = zero_way m.place y.place }))))) f
+          (passes_on w 1 (loops test + loops body) (enters given (unreached w))
+          (λ h.
+          then_do (walk limits known given top Flag test h)
+          (λ m.
+          then_do (decides limits m)
+          (λ y.
+          then_do (walk limits known given top More body y)
+          (λ n. then_do (returns_to h.place n) (λ o. Ok (record o { place = zero_way m.place y.place })))))) h
+          (passes_on (record w { heads = h.heads }) (loops test) (loops body) (walk limits known given top Flag test (unreached (record w { heads = h.heads })))
+          (λ m.
+          then_do (decides limits m)
+          (λ y.
+          then_do (walk limits known given top More body y)
+          (λ n. then_do (returns_to Unreachable n) (λ o. Ok (record o { place = zero_way m.place y.place }))))) f
           (record { heads = g.heads; is = ap (λ r. then_do r (λ n. then_do (returns_to Unreachable n) (λ o. Ok (record o { place = Unreachable })))) g.is; count = g.count; within = g.within })))
       item_none (Again body) top next w e =
           let h = enters_none w (less (length w.heads + (1 + loops body)) (length w.heads + 1) (omega arith) e) in
@@ -104,8 +117,29 @@ module _ (hs : List (ℤ × ℤ)) where
           let r : Passes (enters given (unreached w')) 1 w' = h in
           record {
             heads = f.heads;
-            is = ap (λ x. then_do x (λ h. then_do (walk limits known given (shape_at h.place) More body h) (λ m. then_do (takes limits (table_effect (turn_word plus)) keep m) (λ n. then_do (returns_to h.place n) (λ o. then_do (joins Unreachable o) (λ q. then_do (joins q.leaves q) (λ j. Ok (record j { place = dropped j.place; leaves = w.leaves })))))))) h.is
-                ∙ ap (λ x. then_do x (λ m. then_do (takes limits (table_effect (turn_word plus)) keep m) (λ n. then_do (returns_to Unreachable n) (λ o. then_do (joins Unreachable o) (λ q. then_do (joins q.leaves q) (λ j. Ok (record j { place = dropped j.place; leaves = w.leaves }))))))) f.is;
+            is =
+                ap
+                (λ x.
+                then_do x
+                (λ h.
+                then_do (walk limits known given (shape_at h.place) More body h)
+                (λ m.
+                then_do (takes limits (table_effect (turn_word plus)) keep m)
+                (λ n.
+                then_do (returns_to h.place n)
+                (λ o.
+                then_do (joins Unreachable o)
+                (λ q. then_do (joins q.leaves q) (λ j. Ok (record j { place = dropped j.place; leaves = w.leaves })))))))) h.is
+                ∙ ap
+                (λ x.
+                then_do x
+                (λ m.
+                then_do (takes limits (table_effect (turn_word plus)) keep m)
+                (λ n.
+                then_do (returns_to Unreachable n)
+                (λ o.
+                then_do (joins Unreachable o)
+                (λ q. then_do (joins q.leaves q) (λ j. Ok (record j { place = dropped j.place; leaves = w.leaves }))))))) f.is;
             count = omega (arith, f.count, h.count);
             within = λ x. f.within (h.within x);
           }
@@ -120,8 +154,25 @@ module _ (hs : List (ℤ × ℤ)) where
           let r : Passes (enters given (unreached w')) 1 w' = h in
           record {
             heads = f.heads;
-            is = ap (λ x. then_do x (λ h. then_do (walk limits known given (shape_at h.place) More body h) (λ m. then_do (takes limits (table_effect (turn_word plus)) keep m) (λ n. then_do (returns_to h.place n) (λ o. then_do (joins o.leaves o) (λ j. Ok (record j { place = dropped j.place; leaves = w.leaves }))))))) h.is
-                ∙ ap (λ x. then_do x (λ m. then_do (takes limits (table_effect (turn_word plus)) keep m) (λ n. then_do (returns_to Unreachable n) (λ o. then_do (joins o.leaves o) (λ j. Ok (record j { place = dropped j.place; leaves = w.leaves })))))) f.is;
+            is =
+                ap
+                (λ x.
+                then_do x
+                (λ h.
+                then_do (walk limits known given (shape_at h.place) More body h)
+                (λ m.
+                then_do (takes limits (table_effect (turn_word plus)) keep m)
+                (λ n.
+                then_do (returns_to h.place n)
+                (λ o. then_do (joins o.leaves o) (λ j. Ok (record j { place = dropped j.place; leaves = w.leaves }))))))) h.is
+                ∙ ap
+                (λ x.
+                then_do x
+                (λ m.
+                then_do (takes limits (table_effect (turn_word plus)) keep m)
+                (λ n.
+                then_do (returns_to Unreachable n)
+                (λ o. then_do (joins o.leaves o) (λ j. Ok (record j { place = dropped j.place; leaves = w.leaves })))))) f.is;
             count = omega (arith, f.count, h.count);
             within = λ x. f.within (h.within x);
           }
@@ -132,10 +183,14 @@ module _ (hs : List (ℤ × ℤ)) where
       walk_none Empty top next w e = stays w
       walk_none (Then node rest) top next w e =
           let f = item_none node top (next_of next rest) w (less (length w.heads + (loops_in node + loops rest)) (length w.heads + loops_in node) (omega arith) e) in
-          passes_on w (loops_in node) (loops rest) (item_walk limits known given top (next_of next rest) node (unreached w)) (walk limits known given top next rest) f (walk_none rest top next (record w { heads = f.heads }) (less (length w.heads + (loops_in node + loops rest)) (length f.heads + loops rest) (let c = f.count in omega (arith, c)) e))
+          passes_on w (loops_in node) (loops rest) (item_walk limits known given top (next_of next rest) node (unreached w))
+          (walk limits known given top next rest) f
+          (walk_none rest top next (record w { heads = f.heads })
+          (less (length w.heads + (loops_in node + loops rest)) (length f.heads + loops rest) (let c = f.count in omega (arith, c)) e))
 
       -- arms, where what is last passes n loops
-      arms_none : (arms : Arms) (last : Walk → Walked) (n : ℕ) (top : Option Shape) (next : Next) (w : Walk) → Enough given (length w.heads + (loops_in_arms arms + n)) → ((v : Walk) → Enough given (length v.heads + n) → Passes (last (unreached v)) n v) →
+      arms_none : (arms : Arms) (last : Walk → Walked) (n : ℕ) (top : Option Shape) (next : Next) (w : Walk) →
+          Enough given (length w.heads + (loops_in_arms arms + n)) → ((v : Walk) → Enough given (length v.heads + n) → Passes (last (unreached v)) n v) →
           Passes (arms_walk limits known given top next arms last (unreached w)) (loops_in_arms arms + n) w
       arms_none NoArm last n top next w e each = passes_as w n (0 + n) (last (unreached w)) (omega arith) (each w (less (length w.heads + (0 + n)) (length w.heads + n) (omega arith) e))
       arms_none (Arm tests body others) last n top next w e each =
@@ -145,7 +200,18 @@ module _ (hs : List (ℤ × ℤ)) where
           let o = arms_none others last n top next (record w { heads = g.heads }) (less all (length g.heads + (loops_in_arms others + n)) (let c = f.count in let c' = g.count in omega (arith, c, c')) e) each in
           record {
             heads = o.heads;
-            is = ap (λ r. then_do r (λ m. then_do (takes limits (of_effect (negsuc 0)) keep m) (λ i. then_do (takes limits (of_effect (negsuc 1)) keep (record i { place = m.place })) (λ j. then_do (walk limits known given top next body j) (λ e. then_do (arms_walk limits known given top next others last (record e { place = i.place })) (λ o. joins e.place o)))))) f.is
+            is =
+                ap
+                (λ r.
+                then_do r
+                (λ m.
+                then_do (takes limits (of_effect (negsuc 0)) keep m)
+                (λ i.
+                then_do (takes limits (of_effect (negsuc 1)) keep (record i { place = m.place }))
+                (λ j.
+                then_do (walk limits known given top next body j)
+                (λ e. then_do (arms_walk limits known given top next others last (record e { place = i.place })) (λ o. joins e.place o))))))
+                f.is
                 ∙ ap (λ r. then_do r (λ e. then_do (arms_walk limits known given top next others last (record e { place = Unreachable })) (λ o. joins e.place o))) g.is
                 ∙ ap (λ r. then_do r (λ o. joins Unreachable o)) o.is;
             count = omega (arith, f.count, g.count, o.count);

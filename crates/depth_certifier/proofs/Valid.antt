@@ -12,7 +12,9 @@ use Rattle.depth_certifier.specs.Walk.{Walk, Walked, then_do, takes, decides, ze
 use Rattle.depth_certifier.proofs.SourcePlaces.{below_same, below_then}
 use Rattle.depth_certifier.proofs.Work.{CaseEnds, head_above}
 use Rattle.depth_certifier.proofs.Tests.{then_ok, effect_in_same, effect_in_then}
-use Rattle.depth_certifier.proofs.WalkFits.{Grows, grows_then, grows_same, grows_as, grows_length, append_nil, steps_grow, Took, took, doubled_at, Decided, decided, ShapeIs, Joined, joined_by, Returned, returned, Topped, left, ended, Noted, noted_earlier, Entered, entered}
+use Rattle.depth_certifier.proofs.WalkFits.{Grows, grows_then, grows_same, grows_as, grows_length, append_nil, steps_grow, Took, took, doubled_at, Decided}
+use Rattle.depth_certifier.proofs.WalkFits.{decided, ShapeIs, Joined, joined_by, Returned, returned, Topped, left, ended, Noted, noted_earlier, Entered}
+use Rattle.depth_certifier.proofs.WalkFits.{entered}
 
 -- places do not matter to what grows
 from_place : (w m : Walk) (s : Place) (n : ℕ) → Grows (record w { place = s }) m n → Grows w m n
@@ -52,7 +54,8 @@ module _ (lim : Limits) (zs : Known) (given : Option (List (ℤ × ℤ))) where
       let t = took lim (word_effect zs.shared word) (shape_after word) w o h in
       record { grows = steps_grow w o t.steps; topped = took_topped top w o tp t.steps.leaves; fits = λ e g hs n l b. subst (λ d. WordLeads zs hs e d word w.place o.place) (sym is) (t.leads e g) }
 
-  if_stands : (first second : Nodes) (top : Option Shape) (next : Next) (w m i j o : Walk) → Decided lim w m → WalkStands top (branch_next next) first m i → WalkStands top (branch_next next) second (record i { place = zero_way w.place m.place }) j → Joined i.place j o →
+  if_stands : (first second : Nodes) (top : Option Shape) (next : Next) (w m i j o : Walk) → Decided lim w m → WalkStands top (branch_next next) first m i →
+      WalkStands top (branch_next next) second (record i { place = zero_way w.place m.place }) j → Joined i.place j o →
       ItemStands top next (If first second) w o
   if_stands first second top next w m i j o dm sa sb jn =
       let g0 = steps_grow w m dm.steps in
@@ -70,12 +73,17 @@ module _ (lim : Limits) (zs : Known) (given : Option (List (ℤ × ℤ))) where
           m.place,
           zero_way w.place m.place,
           dm.leads e (effect_in_then (made m) (made o) e gmo.effect g),
-          subst (λ z. Fits zs hs e (branch_next next) first z m.place l o.place) k1 (sa.fits e (effect_in_then (made i) (made o) e gio.effect g) hs (noted_earlier given i o (loops second + 0) hs gio n) l o.place (below_then 0 0 i.leaves o.leaves l gio.leaves b) jn.left),
-          subst (λ z. Fits zs hs e (branch_next next) second z (zero_way w.place m.place) l o.place) k2 (sb.fits e (effect_in_then (made j) (made o) e g3.effect g) hs (noted_earlier given j o 0 hs g3 n) l o.place (below_then 0 0 j.leaves o.leaves l g3.leaves b) jn.right),
+          subst (λ z. Fits zs hs e (branch_next next) first z m.place l o.place) k1
+              (sa.fits e (effect_in_then (made i) (made o) e gio.effect g) hs (noted_earlier given i o (loops second + 0) hs gio n) l o.place
+              (below_then 0 0 i.leaves o.leaves l gio.leaves b) jn.left),
+          subst (λ z. Fits zs hs e (branch_next next) second z (zero_way w.place m.place) l o.place) k2
+              (sb.fits e (effect_in_then (made j) (made o) e g3.effect g) hs (noted_earlier given j o 0 hs g3 n) l o.place
+              (below_then 0 0 j.leaves o.leaves l g3.leaves b) jn.right),
         );
       }
 
-  until_stands : (body : Nodes) (top : Option Shape) (next : Next) (w h m n : Walk) → Entered given w h → WalkStands top More body h m → Took (table_effect table.Until) keep m n → Below n.place h.place → Topped top n.leaves → ItemStands top next (Until body) w n
+  until_stands : (body : Nodes) (top : Option Shape) (next : Next) (w h m n : Walk) → Entered given w h → WalkStands top More body h m →
+      Took (table_effect table.Until) keep m n → Below n.place h.place → Topped top n.leaves → ItemStands top next (Until body) w n
   until_stands body top next w h m n en st tk back tp =
       let g2 = steps_grow m n tk.steps in
       let ghn = grows_then h m n (loops body) 0 st.grows g2 in
@@ -87,13 +95,17 @@ module _ (lim : Limits) (zs : Known) (given : Option (List (ℤ × ℤ))) where
           h.place,
           en.head hs (noted_earlier given h n (loops body + 0) hs ghn no),
           m.place,
-          subst (λ z. Fits zs hs e More body z h.place l m.place) k1 (st.fits e (effect_in_then (made m) (made n) e g2.effect g) hs (noted_earlier given m n 0 hs g2 no) l m.place (below_then 0 0 m.leaves n.leaves l g2.leaves b) (below_same m.place)),
+          subst (λ z. Fits zs hs e More body z h.place l m.place) k1
+              (st.fits e (effect_in_then (made m) (made n) e g2.effect g) hs (noted_earlier given m n 0 hs g2 no) l m.place
+              (below_then 0 0 m.leaves n.leaves l g2.leaves b) (below_same m.place)),
           tk.leads e g,
           back,
         );
       }
 
-  while_stands : (test body : Nodes) (top : Option Shape) (next : Next) (w h m y n : Walk) → Entered given w h → WalkStands top Flag test h m → Decided lim m y → WalkStands top More body y n → Below n.place h.place → ItemStands top next (While test body) w (record n { place = zero_way m.place y.place })
+  while_stands : (test body : Nodes) (top : Option Shape) (next : Next) (w h m y n : Walk) → Entered given w h → WalkStands top Flag test h m →
+      Decided lim m y → WalkStands top More body y n → Below n.place h.place →
+      ItemStands top next (While test body) w (record n { place = zero_way m.place y.place })
   while_stands test body top next w h m y n en st dm sb back =
       let g1 = st.grows in
       let g2 = steps_grow m y dm.steps in
@@ -112,7 +124,9 @@ module _ (lim : Limits) (zs : Known) (given : Option (List (ℤ × ℤ))) where
           h.place,
           en.head hs (noted_earlier given h n (loops test + (0 + loops body)) hs ghn no),
           m.place,
-          subst (λ z. Fits zs hs e Flag test z h.place l m.place) k1 (st.fits e (effect_in_then (made m) (made n) e gmn.effect g) hs (noted_earlier given m n (0 + loops body) hs gmn no) l m.place (below_then 0 0 m.leaves n.leaves l gmn.leaves b) (below_same m.place)),
+          subst (λ z. Fits zs hs e Flag test z h.place l m.place) k1
+              (st.fits e (effect_in_then (made m) (made n) e gmn.effect g) hs (noted_earlier given m n (0 + loops body) hs gmn no) l m.place
+              (below_then 0 0 m.leaves n.leaves l gmn.leaves b) (below_same m.place)),
           y.place,
           dm.leads e (effect_in_then (made y) (made n) e g3.effect g),
           n.place,
@@ -121,9 +135,13 @@ module _ (lim : Limits) (zs : Known) (given : Option (List (ℤ × ℤ))) where
         );
       }
 
-  while_closes : (test body : Nodes) (top : Option Shape) (next : Next) (w h m y n v o : Walk) → Entered given w h → WalkStands top Flag test h m → Decided lim m y → WalkStands top More body y n → Returned h.place n v → done (record v { place = zero_way m.place y.place }) ≡ Ok o → ItemStands top next (While test body) w o
+  while_closes : (test body : Nodes) (top : Option Shape) (next : Next) (w h m y n v o : Walk) → Entered given w h → WalkStands top Flag test h m →
+      Decided lim m y → WalkStands top More body y n → Returned h.place n v → done (record v { place = zero_way m.place y.place }) ≡ Ok o →
+      ItemStands top next (While test body) w o
   while_closes test body top next w h m y n v o en st dm sb rt last =
-      subst (λ z. ItemStands top next (While test body) w z) (ok_same (record n { place = zero_way m.place y.place }) o (subst (λ u. done (record u { place = zero_way m.place y.place }) ≡ Ok o) rt.is last)) (while_stands test body top next w h m y n en st dm sb rt.below)
+      subst (λ z. ItemStands top next (While test body) w z)
+      (ok_same (record n { place = zero_way m.place y.place }) o (subst (λ u. done (record u { place = zero_way m.place y.place }) ≡ Ok o) rt.is last))
+      (while_stands test body top next w h m y n en st dm sb rt.below)
 
   topped_is : (s t : Place) → Topped (shape_at s) t → (p : Stand) → s ≡ At p → ShapeIs p.shape t
   topped_is s t h p is = of t (subst (λ z. Topped (shape_at z) t) is h)
@@ -163,7 +181,8 @@ module _ (lim : Limits) (zs : Known) (given : Option (List (ℤ × ℤ))) where
         );
       }
 
-  again_closes : (body : Nodes) (top : Option Shape) (next : Next) (w h m v o : Walk) → Entered given w h → WalkStands top More body h m → Returned h.place m v → done (record v { place = Unreachable }) ≡ Ok o → ItemStands top next (Again body) w o
+  again_closes : (body : Nodes) (top : Option Shape) (next : Next) (w h m v o : Walk) → Entered given w h → WalkStands top More body h m →
+      Returned h.place m v → done (record v { place = Unreachable }) ≡ Ok o → ItemStands top next (Again body) w o
   again_closes body top next w h m v o en st rt last =
       subst (λ z. ItemStands top next (Again body) w z) (ok_same (record m { place = Unreachable }) o (subst (λ u. done (record u { place = Unreachable }) ≡ Ok o) rt.is last)) (again_stands body top next w h m en st rt.below)
 
@@ -171,7 +190,9 @@ module _ (lim : Limits) (zs : Known) (given : Option (List (ℤ × ℤ))) where
   abbrev do_last : Place → Walk → Walked
   do_last out v = then_do (joins v.leaves v) (λ j. Ok (record j { place = dropped j.place; leaves = out }))
 
-  do_stands : (body : Nodes) (plus : Bool) (top : Option Shape) (next : Next) (w i h m n j : Walk) → Topped top w.leaves → Took (table_effect table.Do) push_loop w i → Entered given (record i { leaves = Unreachable }) h → WalkStands (shape_at h.place) More body h m → Took (table_effect (turn_word plus)) keep m n →
+  do_stands : (body : Nodes) (plus : Bool) (top : Option Shape) (next : Next) (w i h m n j : Walk) → Topped top w.leaves →
+      Took (table_effect table.Do) push_loop w i → Entered given (record i { leaves = Unreachable }) h → WalkStands (shape_at h.place) More body h m →
+      Took (table_effect (turn_word plus)) keep m n →
       Below n.place h.place → Joined n.leaves n j → ItemStands top next (Do body plus) w (record j { place = dropped j.place; leaves = w.leaves })
   do_stands body plus top next w i h m n j tp ti en st tn back jn =
       let i' = record i { leaves = Unreachable } in
@@ -200,7 +221,9 @@ module _ (lim : Limits) (zs : Known) (given : Option (List (ℤ × ℤ))) where
           j.place,
           shape,
           m.place,
-          subst (λ z. Fits zs hs e More body z h.place j.place m.place) k1 (st.fits e (effect_in_then (made m) (made j) e gmj.effect g) hs (noted_earlier given m j (0 + 0) hs gmj no) j.place m.place (subst (λ z. Below z j.place) tn.steps.leaves jn.left) (below_same m.place)),
+          subst (λ z. Fits zs hs e More body z h.place j.place m.place) k1
+              (st.fits e (effect_in_then (made m) (made j) e gmj.effect g) hs (noted_earlier given m j (0 + 0) hs gmj no) j.place m.place
+              (subst (λ z. Below z j.place) tn.steps.leaves jn.left) (below_same m.place)),
           n.place,
           tn.leads e (effect_in_then (made n) (made j) e g4.effect g),
           back,
@@ -209,7 +232,9 @@ module _ (lim : Limits) (zs : Known) (given : Option (List (ℤ × ℤ))) where
         );
       }
 
-  do_closes : (body : Nodes) (plus : Bool) (top : Option Shape) (next : Next) (w i h m n v o : Walk) → Topped top w.leaves → Took (table_effect table.Do) push_loop w i → Entered given (record i { leaves = Unreachable }) h → WalkStands (shape_at h.place) More body h m → Took (table_effect (turn_word plus)) keep m n →
+  do_closes : (body : Nodes) (plus : Bool) (top : Option Shape) (next : Next) (w i h m n v o : Walk) → Topped top w.leaves →
+      Took (table_effect table.Do) push_loop w i → Entered given (record i { leaves = Unreachable }) h → WalkStands (shape_at h.place) More body h m →
+      Took (table_effect (turn_word plus)) keep m n →
       Returned h.place n v → do_last w.leaves v ≡ Ok o → ItemStands top next (Do body plus) w o
   do_closes body plus top next w i h m n v o tp ti en st tn rt last =
       let again : do_last w.leaves n ≡ Ok o = subst (λ z. do_last w.leaves z ≡ Ok o) rt.is last in
@@ -226,7 +251,9 @@ module _ (lim : Limits) (zs : Known) (given : Option (List (ℤ × ℤ))) where
   entered_below w h en = let n = some_noted given h.heads in head_above zs n.0 (made w) (length w.heads) w.place h.place (en.head n.0 n.1)
 
   -- a loop that ?DO may leave out: the place where it does so, and the LEAVEs, join the end
-  query_do_stands : (body : Nodes) (plus : Bool) (top : Option Shape) (next : Next) (w i h m n q j : Walk) → Topped top w.leaves → Took (table_effect table.QDo) push_loop w i → Entered given (record i { leaves = Unreachable }) h → WalkStands (shape_at h.place) More body h m → Took (table_effect (turn_word plus)) keep m n →
+  query_do_stands : (body : Nodes) (plus : Bool) (top : Option Shape) (next : Next) (w i h m n q j : Walk) → Topped top w.leaves →
+      Took (table_effect table.QDo) push_loop w i → Entered given (record i { leaves = Unreachable }) h → WalkStands (shape_at h.place) More body h m →
+      Took (table_effect (turn_word plus)) keep m n →
       Below n.place h.place → Joined i.place n q → Joined q.leaves q j → ItemStands top next (QDo body plus) w (record j { place = dropped j.place; leaves = w.leaves })
   query_do_stands body plus top next w i h m n q j tp ti en st tn back jq jn =
       let i' = record i { leaves = Unreachable } in
@@ -259,7 +286,9 @@ module _ (lim : Limits) (zs : Known) (given : Option (List (ℤ × ℤ))) where
           j.place,
           shape,
           m.place,
-          subst (λ z. Fits zs hs e More body z h.place j.place m.place) k1 (st.fits e (effect_in_then (made m) (made j) e gmj.effect g) hs (noted_earlier given m j (0 + (0 + 0)) hs gmj no) j.place m.place (subst (λ z. Below z j.place) kept_leaves jn.left) (below_same m.place)),
+          subst (λ z. Fits zs hs e More body z h.place j.place m.place) k1
+              (st.fits e (effect_in_then (made m) (made j) e gmj.effect g) hs (noted_earlier given m j (0 + (0 + 0)) hs gmj no) j.place m.place
+              (subst (λ z. Below z j.place) kept_leaves jn.left) (below_same m.place)),
           n.place,
           tn.leads e (effect_in_then (made n) (made j) e g4.effect g),
           back,
@@ -269,7 +298,9 @@ module _ (lim : Limits) (zs : Known) (given : Option (List (ℤ × ℤ))) where
         );
       }
 
-  query_do_closes : (body : Nodes) (plus : Bool) (top : Option Shape) (next : Next) (w i h m n v o : Walk) → Topped top w.leaves → Took (table_effect table.QDo) push_loop w i → Entered given (record i { leaves = Unreachable }) h → WalkStands (shape_at h.place) More body h m → Took (table_effect (turn_word plus)) keep m n →
+  query_do_closes : (body : Nodes) (plus : Bool) (top : Option Shape) (next : Next) (w i h m n v o : Walk) → Topped top w.leaves →
+      Took (table_effect table.QDo) push_loop w i → Entered given (record i { leaves = Unreachable }) h → WalkStands (shape_at h.place) More body h m →
+      Took (table_effect (turn_word plus)) keep m n →
       Returned h.place n v → then_do (joins i.place v) (do_last w.leaves) ≡ Ok o → ItemStands top next (QDo body plus) w o
   query_do_closes body plus top next w i h m n v o tp ti en st tn rt last =
       let again : then_do (joins i.place n) (do_last w.leaves) ≡ Ok o = subst (λ z. then_do (joins i.place z) (do_last w.leaves) ≡ Ok o) rt.is last in
@@ -303,7 +334,8 @@ module _ (lim : Limits) (zs : Known) (given : Option (List (ℤ × ℤ))) where
         );
       }
 
-  arm_stands : (tests body : Nodes) (others : Arms) (rest : Nodes) (top : Option Shape) (next : Next) (w m i j b u o : Walk) → WalkStands top More tests w m → Took (of_effect (negsuc 0)) keep m i → Took (of_effect (negsuc 1)) keep (record i { place = m.place }) j → WalkStands top next body j b →
+  arm_stands : (tests body : Nodes) (others : Arms) (rest : Nodes) (top : Option Shape) (next : Next) (w m i j b u o : Walk) → WalkStands top More tests w m →
+      Took (of_effect (negsuc 0)) keep m i → Took (of_effect (negsuc 1)) keep (record i { place = m.place }) j → WalkStands top next body j b →
       ArmsStand top next others rest (record b { place = i.place }) u → Joined b.place u o → ArmsStand top next (Arm tests body others) rest w o
   arm_stands tests body others rest top next w m i j b u o st ti tj sb su jn =
       let more = loops_in_arms others + loops rest in
@@ -329,8 +361,12 @@ module _ (lim : Limits) (zs : Known) (given : Option (List (ℤ × ℤ))) where
           ti.leads e (effect_in_then (made i) (made o) e gio.effect g),
           j.place,
           tj.leads e (effect_in_then (made j) (made o) e gjo.effect g),
-          subst (λ z. Fits zs hs e next body z j.place l t) k1 (sb.fits e (effect_in_then (made b) (made o) e gbo.effect g) hs (noted_earlier given b o (more + 0) hs gbo no) l t (below_then 0 0 b.leaves o.leaves l gbo.leaves bl) (below_then 0 0 b.place o.place t jn.left bt)),
-          subst (λ z. ArmsFit zs hs e next others (CaseEnds zs hs e rest l t) z i.place l t) k2 (su.fits e (effect_in_then (made u) (made o) e g6.effect g) hs (noted_earlier given u o 0 hs g6 no) l t (below_then 0 0 u.leaves o.leaves l g6.leaves bl) (below_then 0 0 u.place o.place t jn.right bt)),
+          subst (λ z. Fits zs hs e next body z j.place l t) k1
+              (sb.fits e (effect_in_then (made b) (made o) e gbo.effect g) hs (noted_earlier given b o (more + 0) hs gbo no) l t
+              (below_then 0 0 b.leaves o.leaves l gbo.leaves bl) (below_then 0 0 b.place o.place t jn.left bt)),
+          subst (λ z. ArmsFit zs hs e next others (CaseEnds zs hs e rest l t) z i.place l t) k2
+              (su.fits e (effect_in_then (made u) (made o) e g6.effect g) hs (noted_earlier given u o 0 hs g6 no) l t
+              (below_then 0 0 u.leaves o.leaves l g6.leaves bl) (below_then 0 0 u.place o.place t jn.right bt)),
         );
       }
 
@@ -378,7 +414,14 @@ module _ (lim : Limits) (zs : Known) (given : Option (List (ℤ × ℤ))) where
         let rt = returned x.place r3.0 o r3.2 in
         subst (λ z. ItemStands top next (Until body) w z) (sym rt.is) (until_stands body top next w x r2.0 r3.0 en st tk rt.below (took_topped top r2.0 r3.0 st.topped tk.steps.leaves))
     item_stands (While test body) top next w o tp h =
-        let r1 = then_ok (enters given w) (λ h. then_do (going top Flag test h) (λ m. then_do (decides lim m) (λ y. then_do (going top More body y) (λ n. then_do (returns_to h.place n) (λ o. Ok (record o { place = zero_way m.place y.place })))))) o h in
+        let r1 =
+        then_ok (enters given w)
+        (λ h.
+        then_do (going top Flag test h)
+        (λ m.
+        then_do (decides lim m)
+        (λ y. then_do (going top More body y) (λ n. then_do (returns_to h.place n) (λ o. Ok (record o { place = zero_way m.place y.place }))))))
+        o h in
         let x = r1.0 in
         let en = entered given w x r1.1 in
         let r2 = then_ok (going top Flag test x) (λ m. then_do (decides lim m) (λ y. then_do (going top More body y) (λ n. then_do (returns_to x.place n) (λ o. Ok (record o { place = zero_way m.place y.place }))))) o r1.2 in
@@ -395,7 +438,13 @@ module _ (lim : Limits) (zs : Known) (given : Option (List (ℤ × ℤ))) where
         while_closes test body top next w x m y n r5.0 o en st dm sb rt r5.2
     item_stands (Do body plus) top next w o tp h =
         let effect = table_effect (turn_word plus) in
-        let r1 = then_ok (takes lim (table_effect table.Do) push_loop w) (λ i. then_do (enters given (record i { leaves = Unreachable })) (λ h. then_do (going (shape_at h.place) More body h) (λ m. then_do (takes lim effect keep m) (λ n. then_do (returns_to h.place n) (do_last w.leaves))))) o h in
+        let r1 =
+        then_ok (takes lim (table_effect table.Do) push_loop w)
+        (λ i.
+        then_do (enters given (record i { leaves = Unreachable }))
+        (λ h.
+        then_do (going (shape_at h.place) More body h)
+        (λ m. then_do (takes lim effect keep m) (λ n. then_do (returns_to h.place n) (do_last w.leaves))))) o h in
         let i = r1.0 in
         let i' = record i { leaves = Unreachable } in
         let ti = took lim (table_effect table.Do) push_loop w i r1.1 in
@@ -421,7 +470,14 @@ module _ (lim : Limits) (zs : Known) (given : Option (List (ℤ × ℤ))) where
         again_closes body top next w x r2.0 r3.0 o en st (returned x.place r2.0 r3.0 r3.1) r3.2
     item_stands (QDo body plus) top next w o tp h =
         let effect = table_effect (turn_word plus) in
-        let r1 = then_ok (takes lim (table_effect table.QDo) push_loop w) (λ i. then_do (enters given (record i { leaves = Unreachable })) (λ h. then_do (going (shape_at h.place) More body h) (λ m. then_do (takes lim effect keep m) (λ n. then_do (returns_to h.place n) (λ v. then_do (joins i.place v) (do_last w.leaves)))))) o h in
+        let r1 =
+        then_ok (takes lim (table_effect table.QDo) push_loop w)
+        (λ i.
+        then_do (enters given (record i { leaves = Unreachable }))
+        (λ h.
+        then_do (going (shape_at h.place) More body h)
+        (λ m. then_do (takes lim effect keep m) (λ n. then_do (returns_to h.place n) (λ v. then_do (joins i.place v) (do_last w.leaves)))))) o
+        h in
         let i = r1.0 in
         let i' = record i { leaves = Unreachable } in
         let ti = took lim (table_effect table.QDo) push_loop w i r1.1 in
@@ -486,7 +542,12 @@ module _ (lim : Limits) (zs : Known) (given : Option (List (ℤ × ℤ))) where
     arms_stand NoArm rest top next w o last tp h = last w o tp h
     arms_stand (Arm tests body others) rest top next w o last tp h =
         let on_end = λ (i b : Walk). then_do (arms_walk lim zs given top next others (case_last top rest) (record b { place = i.place })) (λ u. joins b.place u) in
-        let r1 = then_ok (going top More tests w) (λ m. then_do (takes lim (of_effect (negsuc 0)) keep m) (λ i. then_do (takes lim (of_effect (negsuc 1)) keep (record i { place = m.place })) (λ j. then_do (going top next body j) (on_end i)))) o h in
+        let r1 =
+        then_ok (going top More tests w)
+        (λ m.
+        then_do (takes lim (of_effect (negsuc 0)) keep m)
+        (λ i. then_do (takes lim (of_effect (negsuc 1)) keep (record i { place = m.place })) (λ j. then_do (going top next body j) (on_end i)))) o
+        h in
         let m = r1.0 in
         let st = walk_stands tests top More w m tp r1.1 in
         let r2 = then_ok (takes lim (of_effect (negsuc 0)) keep m) (λ i. then_do (takes lim (of_effect (negsuc 1)) keep (record i { place = m.place })) (λ j. then_do (going top next body j) (on_end i))) o r1.2 in

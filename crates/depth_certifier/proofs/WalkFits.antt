@@ -10,7 +10,9 @@ use Rattle.depth_certifier.specs.declared.effect.CertCause.TheVariants as cause
 use Rattle.depth_certifier.specs.Place.{Shape, size, Stand, Place, Unreachable, At, Doubled, InsideBy, Below, InLimits}
 use Rattle.depth_certifier.specs.Effects.{table_effect, keep}
 use Rattle.depth_certifier.specs.Certificate.{after, Allows, Leads, Doubles, Decides, no_interval, Head, ExitHas, EndsBody, ExitIn, EffectIn, Limits}
-use Rattle.depth_certifier.specs.Walk.{Walk, checked, in_limits, same_shape, need_at, peak_at, back_at, demanding, take_with, take_at, takes, double_at, decide_at, decides, with_exit, end_at, ends, zero_way, hull, join_at, joins, leave_at, leaving, noting, enter_given, enters, back_to, returns_to, made}
+use Rattle.depth_certifier.specs.Walk.{Walk, checked, in_limits, same_shape, need_at, peak_at, back_at, demanding, take_with, take_at, takes, double_at}
+use Rattle.depth_certifier.specs.Walk.{decide_at, decides, with_exit, end_at, ends, zero_way, hull, join_at, joins, leave_at, leaving, noting, enter_given}
+use Rattle.depth_certifier.specs.Walk.{enters, back_to, returns_to, made}
 use Rattle.depth_certifier.proofs.SourcePlaces.{below_same, below_then}
 use Rattle.depth_certifier.proofs.Tests.{le_from_zero, int_le_true, same_shape_true, checked_ok, min_left, min_right, max_left, max_right, exit_in_same, effect_in_same, effect_in_then}
 
@@ -68,7 +70,8 @@ pub record Took (x : Effect) (change : Shape → Option Shape) (w m : Walk) : Ty
   pub steps : Steps w m
 
 module _ (lim : Limits) where
-  allows_of : (x : Effect) (p : Stand) (shape : Shape) (need peak back : ℕ) (w : Walk) (e : Effect) → EffectIn (made (demanding (need_at x p) (peak_at x p) (max (size p.shape + x.back) (size shape)) (after x.exit p shape) w)) e → Allows e x p shape
+  allows_of : (x : Effect) (p : Stand) (shape : Shape) (need peak back : ℕ) (w : Walk) (e : Effect) →
+      EffectIn (made (demanding (need_at x p) (peak_at x p) (max (size p.shape + x.back) (size shape)) (after x.exit p shape) w)) e → Allows e x p shape
   allows_of x p shape need peak back w e g = record {
     need = (let i = g.need in let c : (pos x.need -ℤ p.low) ≤ℤ pos e.need = le_from_zero (pos x.need -ℤ p.low) e.need (omega (arith, i)) in omega (arith, ints, c));
     peak = (let i = g.peak in le_from_zero (p.high +ℤ pos x.peak) e.peak (omega (arith, i)));

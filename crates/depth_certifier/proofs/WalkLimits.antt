@@ -14,7 +14,9 @@ use Rattle.depth_certifier.specs.declared.effect.CertCause.TheVariants as cause
 use Rattle.depth_certifier.specs.Place.{Shape, size, Stand, Place, Unreachable, At, Doubled}
 use Rattle.depth_certifier.specs.Effects.{table_effect, moved_by, Known, effect_of, Next, Flag, More, next_of, branch_next, called_effect, word_effect, shape_after, keep, push_loop, text_word, turn_word, of_effect}
 use Rattle.depth_certifier.specs.Certificate.{after, no_interval, dropped, doubles, Limits, IsInterval, ExitKeeps, Keeps, SharedInterval}
-use Rattle.depth_certifier.specs.Walk.{Walk, Walked, then_do, checked, in_limits, same_shape, need_at, peak_at, back_at, demanding, take_with, take_at, takes, double_at, decide_at, decides, with_exit, end_at, ends, zero_way, hull, join_at, joins, leave_at, leaving, interval_of, noting, enter_found, enters, returns_to, shape_at, word_walk, item_walk, walk, arms_walk, made}
+use Rattle.depth_certifier.specs.Walk.{Walk, Walked, then_do, checked, in_limits, same_shape, need_at, peak_at, back_at, demanding, take_with, take_at, takes}
+use Rattle.depth_certifier.specs.Walk.{double_at, decide_at, decides, with_exit, end_at, ends, zero_way, hull, join_at, joins, leave_at, leaving, interval_of}
+use Rattle.depth_certifier.specs.Walk.{noting, enter_found, enters, returns_to, shape_at, word_walk, item_walk, walk, arms_walk, made}
 use Rattle.depth_certifier.proofs.Tests.{int_le_true, checked_ok, then_ok}
 use Rattle.depth_certifier.proofs.WalkFits.{returned}
 
@@ -115,7 +117,9 @@ module _ (lim : Limits) where
       let t = and_parts (nat_le (need_at x p) lim.need) (nat_le (peak_at x p) lim.peak && in_limits (after x.exit p p.shape)) a.0 in
       let t1 = and_parts (nat_le (peak_at x p) lim.peak) (in_limits (after x.exit p p.shape)) t.1 in
       let same : r ≡ m = (let z = b.1 in cc (z)) in
-      subst Kept same (demanding_keeps w (need_at x p) (peak_at x p) (max (size p.shape + x.back) (size s)) (after x.exit p s) k (leb-true (need_at x p) lim.need t.0) (leb-true (peak_at x p) lim.peak t1.0) (leb-true (max (size p.shape + x.back) (size s)) lim.back b.0)
+      subst Kept same
+      (demanding_keeps w (need_at x p) (peak_at x p) (max (size p.shape + x.back) (size s)) (after x.exit p s) k (leb-true (need_at x p) lim.need t.0)
+      (leb-true (peak_at x p) lim.peak t1.0) (leb-true (max (size p.shape + x.back) (size s)) lim.back b.0)
       (after_fine x.exit p s i f.1 t1.1))
 
   take_at_kept : (x : Effect) (change : Shape → Option Shape) (q : Place) (w m : Walk) → SharedInterval x.exit → PlaceFine q → Kept w → take_at lim x change q w ≡ Ok m → Kept m
@@ -138,7 +142,9 @@ module _ (lim : Limits) where
       let t1 = and_parts (nat_le (peak_at x p) lim.peak) (in_limits (Doubled p)) t.1 in
       let t2 = and_parts (int_le (negsuc 31) p.low) (int_le p.high (pos 33)) t1.1 in
       let same : r ≡ m = (let z = b.1 in cc (z)) in
-      subst Kept same (demanding_keeps w (need_at x p) (peak_at x p) (back_at x p (Some p.shape)) (Doubled p) k (leb-true (need_at x p) lim.need t.0) (leb-true (peak_at x p) lim.peak t1.0) (leb-true (back_at x p (Some p.shape)) lim.back b.0)
+      subst Kept same
+      (demanding_keeps w (need_at x p) (peak_at x p) (back_at x p (Some p.shape)) (Doubled p) k (leb-true (need_at x p) lim.need t.0)
+      (leb-true (peak_at x p) lim.peak t1.0) (leb-true (back_at x p (Some p.shape)) lim.back b.0)
       (int_le_true (negsuc 31) p.low t2.0, f.1, f.2))
 
   decide_kept : (q : Place) (w m : Walk) → PlaceFine q → Kept w → decide_at lim q w ≡ Ok m → Kept m × PlaceFine (zero_way q m.place)
@@ -204,7 +210,18 @@ module _ (lim : Limits) where
       let b = checked_ok (same_shape p.shape []) cause.Shape (Ok r) m a.1 in
       let t = and_parts (int_le (negsuc 32) p.low) (int_le p.high (pos lim.top)) a.0 in
       let same : r ≡ m = (let z = b.1 in cc (z)) in
-      subst Kept same (record { keeps = record { need = k.keeps.need; peak = k.keeps.peak; back = k.keeps.back; exit = exit_kept w.exit p k.keeps.exit f.0 f.1 (int_le_true p.high (pos lim.top) t.1) }; place = tt; leaves = k.leaves; heads = k.heads })
+      subst Kept same
+      (record {
+        keeps = record {
+          need = k.keeps.need;
+          peak = k.keeps.peak;
+          back = k.keeps.back;
+          exit = exit_kept w.exit p k.keeps.exit f.0 f.1 (int_le_true p.high (pos lim.top) t.1);
+        };
+        place = tt;
+        leaves = k.leaves;
+        heads = k.heads;
+      })
 
   pub ends_kept : (w m : Walk) → Kept w → ends lim w ≡ Ok m → Kept m
   ends_kept w m k h = end_kept w.place w m k.place k h
@@ -262,7 +279,15 @@ module _ (lim : Limits) where
           let r3 = then_ok (takes lim (table_effect table.Until) keep r2.0) (λ n. returns_to x.place n) o r2.2 in
           back_kept x.place r3.0 o (takes_kept (table_effect table.Until) keep r2.0 r3.0 (table_interval table.Until) (walk_kept body top More x r2.0 (enter_kept w.place w x k.place k refl r1.1) r2.1) r3.1) r3.2
       item_kept (While test body) top next w o k h =
-          let r1 = then_ok (enters None w) (λ h. then_do (going top Flag test h) (λ m. then_do (decides lim m) (λ y. then_do (going top More body y) (λ n. then_do (returns_to h.place n) (λ o. Ok (record o { place = zero_way m.place y.place })))))) o h in
+          let r1 =
+          then_ok (enters None w)
+          (λ h.
+          then_do (going top Flag test h)
+          (λ m.
+          then_do (decides lim m)
+          (λ y.
+          then_do (going top More body y) (λ n. then_do (returns_to h.place n) (λ o. Ok (record o { place = zero_way m.place y.place }))))))
+          o h in
           let x = r1.0 in
           let r2 = then_ok (going top Flag test x) (λ m. then_do (decides lim m) (λ y. then_do (going top More body y) (λ n. then_do (returns_to x.place n) (λ o. Ok (record o { place = zero_way m.place y.place }))))) o r1.2 in
           let m = r2.0 in
@@ -283,7 +308,13 @@ module _ (lim : Limits) where
       item_kept (QDo body plus) top next w o k h =
           let effect = table_effect (turn_word plus) in
           let last = λ (q : Walk). then_do (joins q.leaves q) (λ j. Ok (record j { place = dropped j.place; leaves = w.leaves })) in
-          let r1 = then_ok (takes lim (table_effect table.QDo) push_loop w) (λ i. then_do (enters None (record i { leaves = Unreachable })) (λ h. then_do (going (shape_at h.place) More body h) (λ m. then_do (takes lim effect keep m) (λ n. then_do (returns_to h.place n) (λ v. then_do (joins i.place v) last))))) o h in
+          let r1 =
+          then_ok (takes lim (table_effect table.QDo) push_loop w)
+          (λ i.
+          then_do (enters None (record i { leaves = Unreachable }))
+          (λ h.
+          then_do (going (shape_at h.place) More body h)
+          (λ m. then_do (takes lim effect keep m) (λ n. then_do (returns_to h.place n) (λ v. then_do (joins i.place v) last))))) o h in
           let i = r1.0 in
           let ki = takes_kept (table_effect table.QDo) push_loop w i (table_interval table.QDo) k r1.1 in
           let i' = record i { leaves = Unreachable } in
@@ -299,28 +330,54 @@ module _ (lim : Limits) where
           let k5 = back_kept x.place r4.0 r5.0 k4 r5.1 in
           let k6 = joins_kept i.place r5.0 r6.0 ki.place k5 r6.1 in
           let k7 = joins_kept r6.0.leaves r6.0 r7.0 k6.leaves k6 r7.1 in
-          ok_kept (record r7.0 { place = dropped r7.0.place; leaves = w.leaves }) o (Ok (record r7.0 { place = dropped r7.0.place; leaves = w.leaves })) refl r7.2 (with_place r7.0 (dropped r7.0.place) w.leaves k7 (dropped_fine r7.0.place k7.place) k.leaves)
+          ok_kept (record r7.0 { place = dropped r7.0.place; leaves = w.leaves }) o (Ok (record r7.0 { place = dropped r7.0.place; leaves = w.leaves })) refl
+          r7.2 (with_place r7.0 (dropped r7.0.place) w.leaves k7 (dropped_fine r7.0.place k7.place) k.leaves)
       item_kept (Case arms rest) top next w o k h =
           arms_kept arms (λ m. then_do (going top More rest m) (takes lim (table_effect table.EndCase) keep)) top (branch_next next) w o (λ v u kv is.
           let r = then_ok (going top More rest v) (takes lim (table_effect table.EndCase) keep) u is in
           takes_kept (table_effect table.EndCase) keep r.0 u (table_interval table.EndCase) (walk_kept rest top More v r.0 kv r.1) r.2) k h
       item_kept (Do body plus) top next w o k h =
           let effect = table_effect (turn_word plus) in
-          let r1 = then_ok (takes lim (table_effect table.Do) push_loop w) (λ i. then_do (enters None (record i { leaves = Unreachable })) (λ h. then_do (going (shape_at h.place) More body h) (λ m. then_do (takes lim effect keep m) (λ n. then_do (returns_to h.place n) (λ v. then_do (joins v.leaves v) (λ j. Ok (record j { place = dropped j.place; leaves = w.leaves }))))))) o h in
+          let r1 =
+          then_ok (takes lim (table_effect table.Do) push_loop w)
+          (λ i.
+          then_do (enters None (record i { leaves = Unreachable }))
+          (λ h.
+          then_do (going (shape_at h.place) More body h)
+          (λ m.
+          then_do (takes lim effect keep m)
+          (λ n.
+          then_do (returns_to h.place n)
+          (λ v. then_do (joins v.leaves v) (λ j. Ok (record j { place = dropped j.place; leaves = w.leaves }))))))) o h in
           let i = r1.0 in
           let ki = takes_kept (table_effect table.Do) push_loop w i (table_interval table.Do) k r1.1 in
           let i' = record i { leaves = Unreachable } in
-          let r2 = then_ok (enters None i') (λ h. then_do (going (shape_at h.place) More body h) (λ m. then_do (takes lim effect keep m) (λ n. then_do (returns_to h.place n) (λ v. then_do (joins v.leaves v) (λ j. Ok (record j { place = dropped j.place; leaves = w.leaves })))))) o r1.2 in
+          let r2 =
+          then_ok (enters None i')
+          (λ h.
+          then_do (going (shape_at h.place) More body h)
+          (λ m.
+          then_do (takes lim effect keep m)
+          (λ n.
+          then_do (returns_to h.place n)
+          (λ v. then_do (joins v.leaves v) (λ j. Ok (record j { place = dropped j.place; leaves = w.leaves })))))) o r1.2 in
           let x = r2.0 in
           let kx = enter_kept i'.place i' x ki.place (with_place i i.place Unreachable ki ki.place tt) refl r2.1 in
-          let r3 = then_ok (going (shape_at x.place) More body x) (λ m. then_do (takes lim effect keep m) (λ n. then_do (returns_to x.place n) (λ v. then_do (joins v.leaves v) (λ j. Ok (record j { place = dropped j.place; leaves = w.leaves }))))) o r2.2 in
+          let r3 =
+          then_ok (going (shape_at x.place) More body x)
+          (λ m.
+          then_do (takes lim effect keep m)
+          (λ n.
+          then_do (returns_to x.place n) (λ v. then_do (joins v.leaves v) (λ j. Ok (record j { place = dropped j.place; leaves = w.leaves })))))
+          o r2.2 in
           let r4 = then_ok (takes lim effect keep r3.0) (λ n. then_do (returns_to x.place n) (λ v. then_do (joins v.leaves v) (λ j. Ok (record j { place = dropped j.place; leaves = w.leaves })))) o r3.2 in
           let r5 = then_ok (returns_to x.place r4.0) (λ v. then_do (joins v.leaves v) (λ j. Ok (record j { place = dropped j.place; leaves = w.leaves }))) o r4.2 in
           let r6 = then_ok (joins r5.0.leaves r5.0) (λ j. Ok (record j { place = dropped j.place; leaves = w.leaves })) o r5.2 in
           let k4 = takes_kept effect keep r3.0 r4.0 (table_interval (turn_word plus)) (walk_kept body (shape_at x.place) More x r3.0 kx r3.1) r4.1 in
           let k5 = back_kept x.place r4.0 r5.0 k4 r5.1 in
           let k6 = joins_kept r5.0.leaves r5.0 r6.0 k5.leaves k5 r6.1 in
-          ok_kept (record r6.0 { place = dropped r6.0.place; leaves = w.leaves }) o (Ok (record r6.0 { place = dropped r6.0.place; leaves = w.leaves })) refl r6.2 (with_place r6.0 (dropped r6.0.place) w.leaves k6 (dropped_fine r6.0.place k6.place) k.leaves)
+          ok_kept (record r6.0 { place = dropped r6.0.place; leaves = w.leaves }) o (Ok (record r6.0 { place = dropped r6.0.place; leaves = w.leaves })) refl
+          r6.2 (with_place r6.0 (dropped r6.0.place) w.leaves k6 (dropped_fine r6.0.place k6.place) k.leaves)
       item_kept Leave top next w o k h =
           let r = then_ok (takes lim (table_effect table.Leave) keep w) (leaving top) o h in
           let m = takes_kept (table_effect table.Leave) keep w r.0 (table_interval table.Leave) k r.1 in
@@ -336,10 +393,24 @@ module _ (lim : Limits) where
       arms_kept : (arms : Arms) (last : Walk → Walked) (top : Option Shape) (next : Next) (w o : Walk) → ((v u : Walk) → Kept v → last v ≡ Ok u → Kept u) → Kept w → arms_walk lim zs None top next arms last w ≡ Ok o → Kept o
       arms_kept NoArm last top next w o each k h = each w o k h
       arms_kept (Arm tests body others) last top next w o each k h =
-          let r1 = then_ok (going top More tests w) (λ m. then_do (takes lim (of_effect (negsuc 0)) keep m) (λ i. then_do (takes lim (of_effect (negsuc 1)) keep (record i { place = m.place })) (λ j. then_do (going top next body j) (λ b. then_do (arms_walk lim zs None top next others last (record b { place = i.place })) (λ u. joins b.place u))))) o h in
+          let r1 =
+          then_ok (going top More tests w)
+          (λ m.
+          then_do (takes lim (of_effect (negsuc 0)) keep m)
+          (λ i.
+          then_do (takes lim (of_effect (negsuc 1)) keep (record i { place = m.place }))
+          (λ j.
+          then_do (going top next body j)
+          (λ b. then_do (arms_walk lim zs None top next others last (record b { place = i.place })) (λ u. joins b.place u))))) o h in
           let m = r1.0 in
           let km = walk_kept tests top More w m k r1.1 in
-          let r2 = then_ok (takes lim (of_effect (negsuc 0)) keep m) (λ i. then_do (takes lim (of_effect (negsuc 1)) keep (record i { place = m.place })) (λ j. then_do (going top next body j) (λ b. then_do (arms_walk lim zs None top next others last (record b { place = i.place })) (λ u. joins b.place u)))) o r1.2 in
+          let r2 =
+          then_ok (takes lim (of_effect (negsuc 0)) keep m)
+          (λ i.
+          then_do (takes lim (of_effect (negsuc 1)) keep (record i { place = m.place }))
+          (λ j.
+          then_do (going top next body j)
+          (λ b. then_do (arms_walk lim zs None top next others last (record b { place = i.place })) (λ u. joins b.place u)))) o r1.2 in
           let i = r2.0 in
           let ki = takes_kept (of_effect (negsuc 0)) keep m i (of_interval (negsuc 0)) km r2.1 in
           let i' = record i { place = m.place } in

@@ -125,12 +125,19 @@ move_sound n a b w = chosen (nat_lt a b) (move_down n a b w) (move_up n a b w) (
 
 accept_sound : (n a kept : ℕ) (w : World) → Sound (accept n a kept w)
 accept_sound zero a kept w = tt
-accept_sound (suc n) a kept w = bind (take_key w) (λ c w'. elim (c == 10) [ true ↦ Gives kept w' | false ↦ store_byte a c w' ▸ λ _. accept n (sum_of a 1) (kept + 1) ]) (key_sound w) (λ c w'. by_bool (c == 10) (Gives kept w') (store_byte a c w' ▸ λ _. accept n (sum_of a 1) (kept + 1)) tt (bind (store_byte a c w') _ (store_byte_sound a c w') (λ _ w''. accept_sound n (sum_of a 1) (kept + 1) w'')))
+accept_sound (suc n) a kept w =
+    bind (take_key w) (λ c w'. elim (c == 10) [ true ↦ Gives kept w' | false ↦ store_byte a c w' ▸ λ _. accept n (sum_of a 1) (kept + 1) ]) (key_sound w)
+    (λ c w'.
+    by_bool (c == 10) (Gives kept w') (store_byte a c w' ▸ λ _. accept n (sum_of a 1) (kept + 1)) tt
+    (bind (store_byte a c w') _ (store_byte_sound a c w') (λ _ w''. accept_sound n (sum_of a 1) (kept + 1) w'')))
 
 number_sound : (b n a ud : ℕ) (w : World) → Sound (number_from b n a ud w)
 number_sound b zero a ud w = tt
 number_sound b (suc n) a ud w =
-    bind (fetch_byte a w) _ (fetch_byte_sound a w) (λ c w'. by_option (digit_of b c) (Gives (ud, a, suc n) w') (λ d. number_from b n (sum_of a 1) ((ud * b + d) % 4294967296) w') tt (λ d. number_sound b n (sum_of a 1) ((ud * b + d) % 4294967296) w'))
+    bind (fetch_byte a w) _ (fetch_byte_sound a w)
+    (λ c w'.
+    by_option (digit_of b c) (Gives (ud, a, suc n) w') (λ d. number_from b n (sum_of a 1) ((ud * b + d) % 4294967296) w') tt
+    (λ d. number_sound b n (sum_of a 1) ((ud * b + d) % 4294967296) w'))
 
 -- ---- pictured output
 
@@ -138,7 +145,13 @@ open_sound : (w : World) → Sound (open_picture w)
 open_sound w = store_sound (w.data_start + 2) (w.data_start + 96) w
 
 hold_sound : (c : ℕ) (w : World) → Sound (hold c w)
-hold_sound c w = bind (fetch (w.data_start + 2) w) _ (fetch_sound (w.data_start + 2) w) (λ h w'. chosen (nat_le (w'.data_start + 16) (difference_of h 1) && nat_le (difference_of h 1) (w'.data_start + 95)) (store (w'.data_start + 2) (difference_of h 1) w' ▸ λ _. store_byte (difference_of h 1) c) _ (bind (store (w'.data_start + 2) (difference_of h 1) w') _ (store_sound (w'.data_start + 2) (difference_of h 1) w') (λ _ w''. store_byte_sound (difference_of h 1) c w'')) refl)
+hold_sound c w =
+    bind (fetch (w.data_start + 2) w) _ (fetch_sound (w.data_start + 2) w)
+    (λ h w'.
+    chosen (nat_le (w'.data_start + 16) (difference_of h 1) && nat_le (difference_of h 1) (w'.data_start + 95))
+    (store (w'.data_start + 2) (difference_of h 1) w' ▸ λ _. store_byte (difference_of h 1) c) _
+    (bind (store (w'.data_start + 2) (difference_of h 1) w') _ (store_sound (w'.data_start + 2) (difference_of h 1) w')
+    (λ _ w''. store_byte_sound (difference_of h 1) c w'')) refl)
 
 sign_sound : (b : Bool) (w : World) → Sound (hold_sign b w)
 sign_sound true w = hold_sound 45 w
@@ -263,8 +276,12 @@ module _ (w : World) where
   meaning_kept table.Blank c h = changes 0 1 (length c) (suc (length c)) (omega arith)
   meaning_kept table.Base c h = changes 0 1 (length c) (suc (length c)) (omega arith)
   meaning_kept table.Depth c h = changes 0 1 (length c) (suc (length c)) (omega arith)
-  meaning_kept table.TwoSwap c h = with_four (λ c. Kept (table_effect table.TwoSwap).exit (length c) (meaning table.TwoSwap c w)) (λ v z y x c. changes 4 4 (suc (suc (suc (suc (length c))))) (suc (suc (suc (suc (length c))))) (omega arith)) c h
-  meaning_kept table.TwoOver c h = with_four (λ c. Kept (table_effect table.TwoOver).exit (length c) (meaning table.TwoOver c w)) (λ v z y x c. changes 4 6 (suc (suc (suc (suc (length c))))) (suc (suc (suc (suc (suc (suc (length c))))))) (omega arith)) c h
+  meaning_kept table.TwoSwap c h =
+      with_four (λ c. Kept (table_effect table.TwoSwap).exit (length c) (meaning table.TwoSwap c w))
+      (λ v z y x c. changes 4 4 (suc (suc (suc (suc (length c))))) (suc (suc (suc (suc (length c))))) (omega arith)) c h
+  meaning_kept table.TwoOver c h =
+      with_four (λ c. Kept (table_effect table.TwoOver).exit (length c) (meaning table.TwoOver c w))
+      (λ v z y x c. changes 4 6 (suc (suc (suc (suc (length c))))) (suc (suc (suc (suc (suc (suc (length c))))))) (omega arith)) c h
   meaning_kept table.Abs c h = with_one (λ c. Kept (table_effect table.Abs).exit (length c) (meaning table.Abs c w)) (λ x c. changes 1 1 (suc (length c)) (suc (length c)) (omega arith)) c h
   meaning_kept table.Max c h = with_two (λ c. Kept (table_effect table.Max).exit (length c) (meaning table.Max c w)) (λ y x c. changes 2 1 (suc (suc (length c))) (suc (length c)) (omega arith)) c h
   meaning_kept table.Min c h = with_two (λ c. Kept (table_effect table.Min).exit (length c) (meaning table.Min c w)) (λ y x c. changes 2 1 (suc (suc (length c))) (suc (length c)) (omega arith)) c h
@@ -272,47 +289,174 @@ module _ (w : World) where
   meaning_kept table.UMStar c h = with_two (λ c. Kept (table_effect table.UMStar).exit (length c) (meaning table.UMStar c w)) (λ y x c. changes 2 2 (suc (suc (length c))) (suc (suc (length c))) (omega arith)) c h
   meaning_kept table.MStar c h = with_two (λ c. Kept (table_effect table.MStar).exit (length c) (meaning table.MStar c w)) (λ y x c. changes 2 2 (suc (suc (length c))) (suc (suc (length c))) (omega arith)) c h
   meaning_kept table.Star c h = with_two (λ c. Kept (table_effect table.Star).exit (length c) (meaning table.Star c w)) (λ y x c. changes 2 1 (suc (suc (length c))) (suc (length c)) (omega arith)) c h
-  meaning_kept table.Fetch c h = with_one (λ c. Kept (table_effect table.Fetch).exit (length c) (meaning table.Fetch c w)) (λ x c. owed (table_effect table.Fetch).exit (suc (length c)) (fetch x w) _ (fetch_sound x w) (λ _ _. changes 1 1 (suc (length c)) (suc (length c)) (omega arith))) c h
-  meaning_kept table.Store c h = with_two (λ c. Kept (table_effect table.Store).exit (length c) (meaning table.Store c w)) (λ y x c. owed (table_effect table.Store).exit (suc (suc (length c))) (store y x w) _ (store_sound y x w) (λ _ _. changes 2 0 (suc (suc (length c))) (length c) (omega arith))) c h
-  meaning_kept table.CFetch c h = with_one (λ c. Kept (table_effect table.CFetch).exit (length c) (meaning table.CFetch c w)) (λ x c. owed (table_effect table.CFetch).exit (suc (length c)) (fetch_byte x w) _ (fetch_byte_sound x w) (λ _ _. changes 1 1 (suc (length c)) (suc (length c)) (omega arith))) c h
-  meaning_kept table.CStore c h = with_two (λ c. Kept (table_effect table.CStore).exit (length c) (meaning table.CStore c w)) (λ y x c. owed (table_effect table.CStore).exit (suc (suc (length c))) (store_byte y x w) _ (store_byte_sound y x w) (λ _ _. changes 2 0 (suc (suc (length c))) (length c) (omega arith))) c h
-  meaning_kept table.PlusStore c h = with_two (λ c. Kept (table_effect table.PlusStore).exit (length c) (meaning table.PlusStore c w)) (λ y x c. owed (table_effect table.PlusStore).exit (suc (suc (length c))) (fetch y w) _ (fetch_sound y w) (λ h w. owed (table_effect table.PlusStore).exit (suc (suc (length c))) (store y (sum_of h x) w) _ (store_sound y (sum_of h x) w) (λ _ _. changes 2 0 (suc (suc (length c))) (length c) (omega arith)))) c h
-  meaning_kept table.TwoFetch c h = with_one (λ c. Kept (table_effect table.TwoFetch).exit (length c) (meaning table.TwoFetch c w)) (λ x c. owed (table_effect table.TwoFetch).exit (suc (length c)) (fetch (sum_of x 2) w) _ (fetch_sound (sum_of x 2) w) (λ h w. owed (table_effect table.TwoFetch).exit (suc (length c)) (fetch x w) _ (fetch_sound x w) (λ _ _. changes 1 2 (suc (length c)) (suc (suc (length c))) (omega arith)))) c h
-  meaning_kept table.TwoStore c h = with_three (λ c. Kept (table_effect table.TwoStore).exit (length c) (meaning table.TwoStore c w)) (λ z y x c. owed (table_effect table.TwoStore).exit (suc (suc (suc (length c)))) (store z y w) _ (store_sound z y w) (λ h w. owed (table_effect table.TwoStore).exit (suc (suc (suc (length c)))) (store (sum_of z 2) x w) _ (store_sound (sum_of z 2) x w) (λ _ _. changes 3 0 (suc (suc (suc (length c)))) (length c) (omega arith)))) c h
-  meaning_kept table.Count c h = with_one (λ c. Kept (table_effect table.Count).exit (length c) (meaning table.Count c w)) (λ x c. owed (table_effect table.Count).exit (suc (length c)) (fetch_byte x w) _ (fetch_byte_sound x w) (λ _ _. changes 1 2 (suc (length c)) (suc (suc (length c))) (omega arith))) c h
+  meaning_kept table.Fetch c h =
+      with_one (λ c. Kept (table_effect table.Fetch).exit (length c) (meaning table.Fetch c w))
+      (λ x c.
+      owed (table_effect table.Fetch).exit (suc (length c)) (fetch x w) _ (fetch_sound x w)
+      (λ _ _. changes 1 1 (suc (length c)) (suc (length c)) (omega arith))) c h
+  meaning_kept table.Store c h =
+      with_two (λ c. Kept (table_effect table.Store).exit (length c) (meaning table.Store c w))
+      (λ y x c.
+      owed (table_effect table.Store).exit (suc (suc (length c))) (store y x w) _ (store_sound y x w)
+      (λ _ _. changes 2 0 (suc (suc (length c))) (length c) (omega arith))) c h
+  meaning_kept table.CFetch c h =
+      with_one (λ c. Kept (table_effect table.CFetch).exit (length c) (meaning table.CFetch c w))
+      (λ x c.
+      owed (table_effect table.CFetch).exit (suc (length c)) (fetch_byte x w) _ (fetch_byte_sound x w)
+      (λ _ _. changes 1 1 (suc (length c)) (suc (length c)) (omega arith))) c h
+  meaning_kept table.CStore c h =
+      with_two (λ c. Kept (table_effect table.CStore).exit (length c) (meaning table.CStore c w))
+      (λ y x c.
+      owed (table_effect table.CStore).exit (suc (suc (length c))) (store_byte y x w) _ (store_byte_sound y x w)
+      (λ _ _. changes 2 0 (suc (suc (length c))) (length c) (omega arith))) c h
+  meaning_kept table.PlusStore c h =
+      with_two (λ c. Kept (table_effect table.PlusStore).exit (length c) (meaning table.PlusStore c w))
+      (λ y x c.
+      owed (table_effect table.PlusStore).exit (suc (suc (length c))) (fetch y w) _ (fetch_sound y w)
+      (λ h w.
+      owed (table_effect table.PlusStore).exit (suc (suc (length c))) (store y (sum_of h x) w) _ (store_sound y (sum_of h x) w)
+      (λ _ _. changes 2 0 (suc (suc (length c))) (length c) (omega arith)))) c h
+  meaning_kept table.TwoFetch c h =
+      with_one (λ c. Kept (table_effect table.TwoFetch).exit (length c) (meaning table.TwoFetch c w))
+      (λ x c.
+      owed (table_effect table.TwoFetch).exit (suc (length c)) (fetch (sum_of x 2) w) _ (fetch_sound (sum_of x 2) w)
+      (λ h w.
+      owed (table_effect table.TwoFetch).exit (suc (length c)) (fetch x w) _ (fetch_sound x w)
+      (λ _ _. changes 1 2 (suc (length c)) (suc (suc (length c))) (omega arith)))) c h
+  meaning_kept table.TwoStore c h =
+      with_three (λ c. Kept (table_effect table.TwoStore).exit (length c) (meaning table.TwoStore c w))
+      (λ z y x c.
+      owed (table_effect table.TwoStore).exit (suc (suc (suc (length c)))) (store z y w) _ (store_sound z y w)
+      (λ h w.
+      owed (table_effect table.TwoStore).exit (suc (suc (suc (length c)))) (store (sum_of z 2) x w) _ (store_sound (sum_of z 2) x w)
+      (λ _ _. changes 3 0 (suc (suc (suc (length c)))) (length c) (omega arith)))) c h
+  meaning_kept table.Count c h =
+      with_one (λ c. Kept (table_effect table.Count).exit (length c) (meaning table.Count c w))
+      (λ x c.
+      owed (table_effect table.Count).exit (suc (length c)) (fetch_byte x w) _ (fetch_byte_sound x w)
+      (λ _ _. changes 1 2 (suc (length c)) (suc (suc (length c))) (omega arith))) c h
   meaning_kept table.Here c h = owed (table_effect table.Here).exit (length c) (here w) _ (here_sound w) (λ _ _. changes 0 1 (length c) (suc (length c)) (omega arith))
   meaning_kept table.Hex c h = owed (table_effect table.Hex).exit (length c) (store w.data_start 16 w) _ (store_sound w.data_start 16 w) (λ _ _. changes 0 0 (length c) (length c) (omega arith))
   meaning_kept table.Decimal c h = owed (table_effect table.Decimal).exit (length c) (store w.data_start 10 w) _ (store_sound w.data_start 10 w) (λ _ _. changes 0 0 (length c) (length c) (omega arith))
-  meaning_kept table.Comma c h = with_one (λ c. Kept (table_effect table.Comma).exit (length c) (meaning table.Comma c w)) (λ x c. owed (table_effect table.Comma).exit (suc (length c)) (here w) _ (here_sound w) (λ h w. owed (table_effect table.Comma).exit (suc (length c)) (store h x w) _ (store_sound h x w) (λ _ w. owed (table_effect table.Comma).exit (suc (length c)) (grow_here 2 w) _ (grow_sound 2 w) (λ _ _. changes 1 0 (suc (length c)) (length c) (omega arith))))) c h
-  meaning_kept table.CComma c h = with_one (λ c. Kept (table_effect table.CComma).exit (length c) (meaning table.CComma c w)) (λ x c. owed (table_effect table.CComma).exit (suc (length c)) (here w) _ (here_sound w) (λ h w. owed (table_effect table.CComma).exit (suc (length c)) (store_byte h x w) _ (store_byte_sound h x w) (λ _ w. owed (table_effect table.CComma).exit (suc (length c)) (grow_here 1 w) _ (grow_sound 1 w) (λ _ _. changes 1 0 (suc (length c)) (length c) (omega arith))))) c h
-  meaning_kept table.Allot c h = with_one (λ c. Kept (table_effect table.Allot).exit (length c) (meaning table.Allot c w)) (λ x c. owed (table_effect table.Allot).exit (suc (length c)) (grow_here x w) _ (grow_sound x w) (λ _ _. changes 1 0 (suc (length c)) (length c) (omega arith))) c h
-  meaning_kept table.Align c h = owed (table_effect table.Align).exit (length c) (here w) _ (here_sound w) (λ h w. owed (table_effect table.Align).exit (length c) (store (w.data_start + 4) (even (sum_of h 1)) w) _ (store_sound (w.data_start + 4) (even (sum_of h 1)) w) (λ _ _. changes 0 0 (length c) (length c) (omega arith)))
+  meaning_kept table.Comma c h =
+      with_one (λ c. Kept (table_effect table.Comma).exit (length c) (meaning table.Comma c w))
+      (λ x c.
+      owed (table_effect table.Comma).exit (suc (length c)) (here w) _ (here_sound w)
+      (λ h w.
+      owed (table_effect table.Comma).exit (suc (length c)) (store h x w) _ (store_sound h x w)
+      (λ _ w.
+      owed (table_effect table.Comma).exit (suc (length c)) (grow_here 2 w) _ (grow_sound 2 w)
+      (λ _ _. changes 1 0 (suc (length c)) (length c) (omega arith))))) c h
+  meaning_kept table.CComma c h =
+      with_one (λ c. Kept (table_effect table.CComma).exit (length c) (meaning table.CComma c w))
+      (λ x c.
+      owed (table_effect table.CComma).exit (suc (length c)) (here w) _ (here_sound w)
+      (λ h w.
+      owed (table_effect table.CComma).exit (suc (length c)) (store_byte h x w) _ (store_byte_sound h x w)
+      (λ _ w.
+      owed (table_effect table.CComma).exit (suc (length c)) (grow_here 1 w) _ (grow_sound 1 w)
+      (λ _ _. changes 1 0 (suc (length c)) (length c) (omega arith))))) c h
+  meaning_kept table.Allot c h =
+      with_one (λ c. Kept (table_effect table.Allot).exit (length c) (meaning table.Allot c w))
+      (λ x c.
+      owed (table_effect table.Allot).exit (suc (length c)) (grow_here x w) _ (grow_sound x w)
+      (λ _ _. changes 1 0 (suc (length c)) (length c) (omega arith))) c h
+  meaning_kept table.Align c h =
+      owed (table_effect table.Align).exit (length c) (here w) _ (here_sound w)
+      (λ h w.
+      owed (table_effect table.Align).exit (length c) (store (w.data_start + 4) (even (sum_of h 1)) w) _
+      (store_sound (w.data_start + 4) (even (sum_of h 1)) w) (λ _ _. changes 0 0 (length c) (length c) (omega arith)))
   meaning_kept table.Key c h = owed (table_effect table.Key).exit (length c) (take_key w) _ (key_sound w) (λ _ _. changes 0 1 (length c) (suc (length c)) (omega arith))
   meaning_kept table.Emit c h = with_one (λ c. Kept (table_effect table.Emit).exit (length c) (meaning table.Emit c w)) (λ x c. changes 1 0 (suc (length c)) (length c) (omega arith)) c h
   meaning_kept table.Cr c h = changes 0 0 (length c) (length c) (omega arith)
   meaning_kept table.Space c h = changes 0 0 (length c) (length c) (omega arith)
-  meaning_kept table.Spaces c h = with_one (λ c. Kept (table_effect table.Spaces).exit (length c) (meaning table.Spaces c w)) (λ x c. owed (table_effect table.Spaces).exit (suc (length c)) (emit_spaces (positive (signed x)) w) _ (spaces_sound (positive (signed x)) w) (λ _ _. changes 1 0 (suc (length c)) (length c) (omega arith))) c h
-  meaning_kept table.TypeOut c h = with_two (λ c. Kept (table_effect table.TypeOut).exit (length c) (meaning table.TypeOut c w)) (λ y x c. owed (table_effect table.TypeOut).exit (suc (suc (length c))) (type_out y x w) _ (type_sound y x w) (λ _ _. changes 2 0 (suc (suc (length c))) (length c) (omega arith))) c h
-  meaning_kept table.Fill c h = with_three (λ c. Kept (table_effect table.Fill).exit (length c) (meaning table.Fill c w)) (λ z y x c. owed (table_effect table.Fill).exit (suc (suc (suc (length c)))) (fill y x z w) _ (fill_sound y x z w) (λ _ _. changes 3 0 (suc (suc (suc (length c)))) (length c) (omega arith))) c h
-  meaning_kept table.Move c h = with_three (λ c. Kept (table_effect table.Move).exit (length c) (meaning table.Move c w)) (λ z y x c. owed (table_effect table.Move).exit (suc (suc (suc (length c)))) (move z x y w) _ (move_sound z x y w) (λ _ _. changes 3 0 (suc (suc (suc (length c)))) (length c) (omega arith))) c h
-  meaning_kept table.Accept c h = with_two (λ c. Kept (table_effect table.Accept).exit (length c) (meaning table.Accept c w)) (λ y x c. owed (table_effect table.Accept).exit (suc (suc (length c))) (accept y x 0 w) _ (accept_sound y x 0 w) (λ _ _. changes 2 1 (suc (suc (length c))) (suc (length c)) (omega arith))) c h
-  meaning_kept table.ToNumber c h = with_four (λ c. Kept (table_effect table.ToNumber).exit (length c) (meaning table.ToNumber c w)) (λ v z y x c. owed (table_effect table.ToNumber).exit (suc (suc (suc (suc (length c))))) (base w) _ (base_sound w) (λ h w. owed (table_effect table.ToNumber).exit (suc (suc (suc (suc (length c))))) (number_from h v z (double x y) w) _ (number_sound h v z (double x y) w) (λ _ _. changes 4 4 (suc (suc (suc (suc (length c))))) (suc (suc (suc (suc (length c))))) (omega arith)))) c h
+  meaning_kept table.Spaces c h =
+      with_one (λ c. Kept (table_effect table.Spaces).exit (length c) (meaning table.Spaces c w))
+      (λ x c.
+      owed (table_effect table.Spaces).exit (suc (length c)) (emit_spaces (positive (signed x)) w) _ (spaces_sound (positive (signed x)) w)
+      (λ _ _. changes 1 0 (suc (length c)) (length c) (omega arith))) c h
+  meaning_kept table.TypeOut c h =
+      with_two (λ c. Kept (table_effect table.TypeOut).exit (length c) (meaning table.TypeOut c w))
+      (λ y x c.
+      owed (table_effect table.TypeOut).exit (suc (suc (length c))) (type_out y x w) _ (type_sound y x w)
+      (λ _ _. changes 2 0 (suc (suc (length c))) (length c) (omega arith))) c h
+  meaning_kept table.Fill c h =
+      with_three (λ c. Kept (table_effect table.Fill).exit (length c) (meaning table.Fill c w))
+      (λ z y x c.
+      owed (table_effect table.Fill).exit (suc (suc (suc (length c)))) (fill y x z w) _ (fill_sound y x z w)
+      (λ _ _. changes 3 0 (suc (suc (suc (length c)))) (length c) (omega arith))) c h
+  meaning_kept table.Move c h =
+      with_three (λ c. Kept (table_effect table.Move).exit (length c) (meaning table.Move c w))
+      (λ z y x c.
+      owed (table_effect table.Move).exit (suc (suc (suc (length c)))) (move z x y w) _ (move_sound z x y w)
+      (λ _ _. changes 3 0 (suc (suc (suc (length c)))) (length c) (omega arith))) c h
+  meaning_kept table.Accept c h =
+      with_two (λ c. Kept (table_effect table.Accept).exit (length c) (meaning table.Accept c w))
+      (λ y x c.
+      owed (table_effect table.Accept).exit (suc (suc (length c))) (accept y x 0 w) _ (accept_sound y x 0 w)
+      (λ _ _. changes 2 1 (suc (suc (length c))) (suc (length c)) (omega arith))) c h
+  meaning_kept table.ToNumber c h =
+      with_four (λ c. Kept (table_effect table.ToNumber).exit (length c) (meaning table.ToNumber c w))
+      (λ v z y x c.
+      owed (table_effect table.ToNumber).exit (suc (suc (suc (suc (length c))))) (base w) _ (base_sound w)
+      (λ h w.
+      owed (table_effect table.ToNumber).exit (suc (suc (suc (suc (length c))))) (number_from h v z (double x y) w) _
+      (number_sound h v z (double x y) w) (λ _ _. changes 4 4 (suc (suc (suc (suc (length c))))) (suc (suc (suc (suc (length c))))) (omega arith))))
+      c h
   meaning_kept table.LessSharp c h = owed (table_effect table.LessSharp).exit (length c) (open_picture w) _ (open_sound w) (λ _ _. changes 0 0 (length c) (length c) (omega arith))
-  meaning_kept table.Hold c h = with_one (λ c. Kept (table_effect table.Hold).exit (length c) (meaning table.Hold c w)) (λ x c. owed (table_effect table.Hold).exit (suc (length c)) (hold x w) _ (hold_sound x w) (λ _ _. changes 1 0 (suc (length c)) (length c) (omega arith))) c h
-  meaning_kept table.Sign c h = with_one (λ c. Kept (table_effect table.Sign).exit (length c) (meaning table.Sign c w)) (λ x c. owed (table_effect table.Sign).exit (suc (length c)) (hold_sign (int_lt (signed x) (pos 0)) w) _ (sign_sound (int_lt (signed x) (pos 0)) w) (λ _ _. changes 1 0 (suc (length c)) (length c) (omega arith))) c h
-  meaning_kept table.Sharp c h = with_two (λ c. Kept (table_effect table.Sharp).exit (length c) (meaning table.Sharp c w)) (λ y x c. owed (table_effect table.Sharp).exit (suc (suc (length c))) (hold_digit (double x y) w) _ (digit_sound (double x y) w) (λ _ _. changes 2 2 (suc (suc (length c))) (suc (suc (length c))) (omega arith))) c h
-  meaning_kept table.SharpS c h = with_two (λ c. Kept (table_effect table.SharpS).exit (length c) (meaning table.SharpS c w)) (λ y x c. owed (table_effect table.SharpS).exit (suc (suc (length c))) (hold_all (double x y) w) _ (digits_sound 32 (double x y) w) (λ _ _. changes 2 2 (suc (suc (length c))) (suc (suc (length c))) (omega arith))) c h
-  meaning_kept table.SharpGreater c h = with_two (λ c. Kept (table_effect table.SharpGreater).exit (length c) (meaning table.SharpGreater c w)) (λ y x c. owed (table_effect table.SharpGreater).exit (suc (suc (length c))) (picture w) _ (picture_sound w) (λ _ _. changes 2 2 (suc (suc (length c))) (suc (suc (length c))) (omega arith))) c h
-  meaning_kept table.Dot c h = with_one (λ c. Kept (table_effect table.Dot).exit (length c) (meaning table.Dot c w)) (λ x c. owed (table_effect table.Dot).exit (suc (length c)) (print_number (unsigned_abs (signed x)) (int_lt (signed x) (pos 0)) w) _ (print_sound (unsigned_abs (signed x)) (int_lt (signed x) (pos 0)) w) (λ _ _. changes 1 0 (suc (length c)) (length c) (omega arith))) c h
-  meaning_kept table.UDot c h = with_one (λ c. Kept (table_effect table.UDot).exit (length c) (meaning table.UDot c w)) (λ x c. owed (table_effect table.UDot).exit (suc (length c)) (print_number x false w) _ (print_sound x false w) (λ _ _. changes 1 0 (suc (length c)) (length c) (omega arith))) c h
-  meaning_kept table.UMSlashMod c h = with_three (λ c. Kept (table_effect table.UMSlashMod).exit (length c) (meaning table.UMSlashMod c w)) (λ z y x c. both_kept (unsigned_division (double x y) z) c w 3 (suc (suc (suc (length c)))) (omega arith)) c h
-  meaning_kept table.SMSlashRem c h = with_three (λ c. Kept (table_effect table.SMSlashRem).exit (length c) (meaning table.SMSlashRem c w)) (λ z y x c. both_kept (symmetric_division (signed_double x y) (signed z)) c w 3 (suc (suc (suc (length c)))) (omega arith)) c h
-  meaning_kept table.FMSlashMod c h = with_three (λ c. Kept (table_effect table.FMSlashMod).exit (length c) (meaning table.FMSlashMod c w)) (λ z y x c. both_kept (floored_division (signed_double x y) (signed z)) c w 3 (suc (suc (suc (length c)))) (omega arith)) c h
+  meaning_kept table.Hold c h =
+      with_one (λ c. Kept (table_effect table.Hold).exit (length c) (meaning table.Hold c w))
+      (λ x c.
+      owed (table_effect table.Hold).exit (suc (length c)) (hold x w) _ (hold_sound x w) (λ _ _. changes 1 0 (suc (length c)) (length c) (omega arith)))
+      c h
+  meaning_kept table.Sign c h =
+      with_one (λ c. Kept (table_effect table.Sign).exit (length c) (meaning table.Sign c w))
+      (λ x c.
+      owed (table_effect table.Sign).exit (suc (length c)) (hold_sign (int_lt (signed x) (pos 0)) w) _ (sign_sound (int_lt (signed x) (pos 0)) w)
+      (λ _ _. changes 1 0 (suc (length c)) (length c) (omega arith))) c h
+  meaning_kept table.Sharp c h =
+      with_two (λ c. Kept (table_effect table.Sharp).exit (length c) (meaning table.Sharp c w))
+      (λ y x c.
+      owed (table_effect table.Sharp).exit (suc (suc (length c))) (hold_digit (double x y) w) _ (digit_sound (double x y) w)
+      (λ _ _. changes 2 2 (suc (suc (length c))) (suc (suc (length c))) (omega arith))) c h
+  meaning_kept table.SharpS c h =
+      with_two (λ c. Kept (table_effect table.SharpS).exit (length c) (meaning table.SharpS c w))
+      (λ y x c.
+      owed (table_effect table.SharpS).exit (suc (suc (length c))) (hold_all (double x y) w) _ (digits_sound 32 (double x y) w)
+      (λ _ _. changes 2 2 (suc (suc (length c))) (suc (suc (length c))) (omega arith))) c h
+  meaning_kept table.SharpGreater c h =
+      with_two (λ c. Kept (table_effect table.SharpGreater).exit (length c) (meaning table.SharpGreater c w))
+      (λ y x c.
+      owed (table_effect table.SharpGreater).exit (suc (suc (length c))) (picture w) _ (picture_sound w)
+      (λ _ _. changes 2 2 (suc (suc (length c))) (suc (suc (length c))) (omega arith))) c h
+  meaning_kept table.Dot c h =
+      with_one (λ c. Kept (table_effect table.Dot).exit (length c) (meaning table.Dot c w))
+      (λ x c.
+      owed (table_effect table.Dot).exit (suc (length c)) (print_number (unsigned_abs (signed x)) (int_lt (signed x) (pos 0)) w) _
+      (print_sound (unsigned_abs (signed x)) (int_lt (signed x) (pos 0)) w) (λ _ _. changes 1 0 (suc (length c)) (length c) (omega arith))) c h
+  meaning_kept table.UDot c h =
+      with_one (λ c. Kept (table_effect table.UDot).exit (length c) (meaning table.UDot c w))
+      (λ x c.
+      owed (table_effect table.UDot).exit (suc (length c)) (print_number x false w) _ (print_sound x false w)
+      (λ _ _. changes 1 0 (suc (length c)) (length c) (omega arith))) c h
+  meaning_kept table.UMSlashMod c h =
+      with_three (λ c. Kept (table_effect table.UMSlashMod).exit (length c) (meaning table.UMSlashMod c w))
+      (λ z y x c. both_kept (unsigned_division (double x y) z) c w 3 (suc (suc (suc (length c)))) (omega arith)) c h
+  meaning_kept table.SMSlashRem c h =
+      with_three (λ c. Kept (table_effect table.SMSlashRem).exit (length c) (meaning table.SMSlashRem c w))
+      (λ z y x c. both_kept (symmetric_division (signed_double x y) (signed z)) c w 3 (suc (suc (suc (length c)))) (omega arith)) c h
+  meaning_kept table.FMSlashMod c h =
+      with_three (λ c. Kept (table_effect table.FMSlashMod).exit (length c) (meaning table.FMSlashMod c w))
+      (λ z y x c. both_kept (floored_division (signed_double x y) (signed z)) c w 3 (suc (suc (suc (length c)))) (omega arith)) c h
   meaning_kept table.SlashMod c h = with_two (λ c. Kept (table_effect table.SlashMod).exit (length c) (meaning table.SlashMod c w)) (λ y x c. both_kept (floored_division (signed x) (signed y)) c w 2 (suc (suc (length c))) (omega arith)) c h
   meaning_kept table.Slash c h = with_two (λ c. Kept (table_effect table.Slash).exit (length c) (meaning table.Slash c w)) (λ y x c. quotient_kept (floored_division (signed x) (signed y)) c w 2 (suc (suc (length c))) (omega arith)) c h
   meaning_kept table.Mod c h = with_two (λ c. Kept (table_effect table.Mod).exit (length c) (meaning table.Mod c w)) (λ y x c. rest_kept (floored_division (signed x) (signed y)) c w 2 (suc (suc (length c))) (omega arith)) c h
-  meaning_kept table.StarSlashMod c h = with_three (λ c. Kept (table_effect table.StarSlashMod).exit (length c) (meaning table.StarSlashMod c w)) (λ z y x c. both_kept (floored_division (signed x *ℤ signed y) (signed z)) c w 3 (suc (suc (suc (length c)))) (omega arith)) c h
-  meaning_kept table.StarSlash c h = with_three (λ c. Kept (table_effect table.StarSlash).exit (length c) (meaning table.StarSlash c w)) (λ z y x c. quotient_kept (floored_division (signed x *ℤ signed y) (signed z)) c w 3 (suc (suc (suc (length c)))) (omega arith)) c h
+  meaning_kept table.StarSlashMod c h =
+      with_three (λ c. Kept (table_effect table.StarSlashMod).exit (length c) (meaning table.StarSlashMod c w))
+      (λ z y x c. both_kept (floored_division (signed x *ℤ signed y) (signed z)) c w 3 (suc (suc (suc (length c)))) (omega arith)) c h
+  meaning_kept table.StarSlash c h =
+      with_three (λ c. Kept (table_effect table.StarSlash).exit (length c) (meaning table.StarSlash c w))
+      (λ z y x c. quotient_kept (floored_division (signed x *ℤ signed y) (signed z)) c w 3 (suc (suc (suc (length c)))) (omega arith)) c h
   meaning_kept table.QDup c h = with_one (λ c. Kept (table_effect table.QDup).exit (length c) (meaning table.QDup c w)) (λ x c. query_kept x c) c h
   meaning_kept table.AbortRun c h = refl
   meaning_kept table.Quit c h = refl

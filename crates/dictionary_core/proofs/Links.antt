@@ -43,7 +43,10 @@ module _ {V : Type 0} where
 
     head_more : IsChained names entries heads → (b : ℕ) → b < 64 → slice_index_or (set heads entry.bucket (Some (length names))) b None ≡ last_in b (names ++ name ∷ [])
     head_more c b h = elim (cases_eq b entry.bucket) [
-      | inl same ↦ ap (λ i. slice_index_or (set heads entry.bucket (Some (length names))) i None) same ∙ get_or-set_same heads entry.bucket (Some (length names)) None (omega (arith, small)) ∙ sym (last_is_new (has_bucket b) names name (eq-eqb (bucket name) b (sym bucket_is ∙ sym same)))
+      | inl same ↦
+          ap (λ i. slice_index_or (set heads entry.bucket (Some (length names))) i None) same
+          ∙ get_or-set_same heads entry.bucket (Some (length names)) None (omega (arith, small))
+          ∙ sym (last_is_new (has_bucket b) names name (eq-eqb (bucket name) b (sym bucket_is ∙ sym same)))
       | inr other ↦ get_or-set_other heads entry.bucket b (Some (length names)) None other ∙ c.heads_are b h ∙ sym (last_is_old (has_bucket b) names name (ne_eqb (bucket name) b (λ e. other (sym (bucket_is ∙ e)))))
     ]
 
@@ -73,7 +76,8 @@ module _ {V : Type 0} where
     }
 
   pub chain_added : (names more : List (List ℕ)) (entries more_entries : List (Entry V)) (heads : List (Option ℕ)) (name : List ℕ) (entry : Entry V) (place : ℕ) → entry.bucket ≡ bucket name →
-      IsChained names entries heads → length names < 512 → entry.older ≡ slice_index_or heads entry.bucket None → more ≡ names ++ name ∷ [] → more_entries ≡ entries ++ entry ∷ [] → place ≡ length names → IsChained more more_entries (set heads entry.bucket (Some place))
+      IsChained names entries heads → length names < 512 → entry.older ≡ slice_index_or heads entry.bucket None → more ≡ names ++ name ∷ [] →
+      more_entries ≡ entries ++ entry ∷ [] → place ≡ length names → IsChained more more_entries (set heads entry.bucket (Some place))
   chain_added names more entries more_entries heads name entry place b c room o m e p = rw (m, e, p) (chain_more names entries heads name entry c.sixty_four b c room o)
 
   -- the newest pair is taken off
@@ -92,7 +96,10 @@ module _ {V : Type 0} where
 
     head_less : (b : ℕ) → b < 64 → slice_index_or (set heads entry.bucket entry.older) b None ≡ last_in b names
     head_less b h = elim (cases_eq b entry.bucket) [
-      | inl same ↦ ap (λ i. slice_index_or (set heads entry.bucket entry.older) i None) same ∙ get_or-set_same heads entry.bucket entry.older None (omega (arith, newest_small, c.sixty_four)) ∙ newest.older_is ∙ ap (last_in entry.bucket) (take_at names (name ∷ []) (length entries) (sym as_many)) ∙ ap (λ b. last_in b names) (sym same)
+      | inl same ↦
+          ap (λ i. slice_index_or (set heads entry.bucket entry.older) i None) same
+          ∙ get_or-set_same heads entry.bucket entry.older None (omega (arith, newest_small, c.sixty_four)) ∙ newest.older_is
+          ∙ ap (last_in entry.bucket) (take_at names (name ∷ []) (length entries) (sym as_many)) ∙ ap (λ b. last_in b names) (sym same)
       | inr other ↦ get_or-set_other heads entry.bucket b entry.older None other ∙ c.heads_are b h ∙ last_is_old (has_bucket b) names name (ne_eqb (bucket name) b (λ e. other (sym (of_name ∙ e))))
     ]
 
@@ -122,5 +129,6 @@ module _ {V : Type 0} where
   chain_popped names old entries heads entry e within c =
       let longer : length old ≡ length entries + 1 = ap length e ∙ length-append entries (entry ∷ []) in
       let cut : take (length old) names ≡ take (length entries) names ++ slice_index_or names (length entries) [] ∷ [] = ap (λ k. take k names) longer ∙ take_more names (length entries) [] (omega (arith, longer, within)) in
-      let d : IsChained (take (length entries) names ++ slice_index_or names (length entries) [] ∷ []) (entries ++ entry ∷ []) heads = subst (λ ns. IsChained ns (entries ++ entry ∷ []) heads) cut (subst (λ es. IsChained (take (length old) names) es heads) e c) in
+      let d : IsChained (take (length entries) names ++ slice_index_or names (length entries) [] ∷ []) (entries ++ entry ∷ []) heads =
+      subst (λ ns. IsChained ns (entries ++ entry ∷ []) heads) cut (subst (λ es. IsChained (take (length old) names) es heads) e c) in
       (newest_small _ entries heads _ entry d, chain_less _ entries heads _ entry d)

@@ -69,7 +69,8 @@ module _ {V : Type 0} where
   some_here asked n x ns xs k entry none more false None p f g h = absurd cc
 
   -- the value of the last name that is the one
-  pub some_newest : (asked : List ℕ) (names : List (List ℕ)) (entries : List (Entry V)) (k : ℕ) (entry : Entry V) → length entries ≡ length names → last_place (is_same_name asked) names ≡ Some k → slice_get entries k ≡ Some entry → newest_value (pairs_in names entries) asked ≡ Some entry.value
+  pub some_newest : (asked : List ℕ) (names : List (List ℕ)) (entries : List (Entry V)) (k : ℕ) (entry : Entry V) → length entries ≡ length names →
+      last_place (is_same_name asked) names ≡ Some k → slice_get entries k ≡ Some entry → newest_value (pairs_in names entries) asked ≡ Some entry.value
   some_newest asked [] entries k entry e f h = absurd cc
   some_newest asked (n ∷ ns) [] k entry e f h = absurd (omega arith)
   some_newest asked (n ∷ ns) (x ∷ xs) k entry e f h =
@@ -87,14 +88,17 @@ module _ {V : Type 0} where
       ∙ ap (λ (d : DictionaryState V). record d { pairs = d.pairs ++ pair name entry.value ∷ [] }) is
 
   -- the value that is found, or that there is none
-  pub seen_none : (names : NameList) (entries : List (Entry V)) (seen : DictionaryState V) (asked : List ℕ) → state_of names entries ≡ seen → length entries ≡ length names.names → last_place (is_same_name asked) names.names ≡ None → newest_value seen.pairs asked ≡ None
+  pub seen_none : (names : NameList) (entries : List (Entry V)) (seen : DictionaryState V) (asked : List ℕ) → state_of names entries ≡ seen →
+      length entries ≡ length names.names → last_place (is_same_name asked) names.names ≡ None → newest_value seen.pairs asked ≡ None
   seen_none names entries seen asked is as_many e = ap (λ (d : DictionaryState V). newest_value d.pairs asked) (sym is) ∙ none_newest asked names.names entries as_many e
 
-  pub seen_some : (names : NameList) (entries : List (Entry V)) (seen : DictionaryState V) (asked : List ℕ) (k : ℕ) (entry : Entry V) → state_of names entries ≡ seen → length entries ≡ length names.names → last_place (is_same_name asked) names.names ≡ Some k →
+  pub seen_some : (names : NameList) (entries : List (Entry V)) (seen : DictionaryState V) (asked : List ℕ) (k : ℕ) (entry : Entry V) →
+      state_of names entries ≡ seen → length entries ≡ length names.names → last_place (is_same_name asked) names.names ≡ Some k →
       slice_get entries k ≡ Some entry → newest_value seen.pairs asked ≡ Some entry.value
   seen_some names entries seen asked k entry is as_many e f = ap (λ (d : DictionaryState V). newest_value d.pairs asked) (sym is) ∙ some_newest asked names.names entries k entry as_many e f
 
-  pub seen_looks : (names : NameList) (entries : List (Entry V)) (seen : DictionaryState V) (b more : ℕ) → state_of names entries ≡ seen → length entries ≡ length names.names → more ≤ names.looks + number_of_names (has_bucket b) names.names →
+  pub seen_looks : (names : NameList) (entries : List (Entry V)) (seen : DictionaryState V) (b more : ℕ) → state_of names entries ≡ seen →
+      length entries ≡ length names.names → more ≤ names.looks + number_of_names (has_bucket b) names.names →
       more ≤ seen.looks + number_of_names (has_bucket b) (names_of seen.pairs)
   seen_looks names entries seen b more is as_many h =
       omega (arith, h, ap (λ (d : DictionaryState V). d.looks) is, ap (number_of_names (has_bucket b)) (seen_names names.names entries names.looks seen is as_many))
@@ -109,7 +113,8 @@ module _ {V : Type 0} where
   pairs_cut (n ∷ ns) (x ∷ xs) = ap (λ l. pair n x.value ∷ l) (pairs_cut ns xs)
 
   -- the newest pair is taken off
-  pub pairs_less : (names : List (List ℕ)) (old entries : List (Entry V)) (entry : Entry V) (pairs : List (Pair V)) → old ≡ entries ++ entry ∷ [] → pairs_in names old ≡ take (length old) pairs → pairs_in names entries ≡ take (length entries) pairs
+  pub pairs_less : (names : List (List ℕ)) (old entries : List (Entry V)) (entry : Entry V) (pairs : List (Pair V)) → old ≡ entries ++ entry ∷ [] →
+      pairs_in names old ≡ take (length old) pairs → pairs_in names entries ≡ take (length entries) pairs
   pairs_less names old entries entry pairs e h =
       let k = length entries in
       let longer : length old ≡ k + 1 = ap length e ∙ length-append entries (entry ∷ []) in
@@ -123,11 +128,13 @@ module _ {V : Type 0} where
   pub seen_pairs : (names : NameList) (present : List (List ℕ)) (entries : List (Entry V)) (seen : DictionaryState V) → state_of names entries ≡ seen → present ≡ names.names → pairs_in present entries ≡ seen.pairs
   seen_pairs names present entries seen is e = ap (λ ns. pairs_in ns entries) e ∙ ap (λ (d : DictionaryState V). d.pairs) is
 
-  pub seen_place : (names : NameList) (entries : List (Entry V)) (seen : DictionaryState V) (asked : List ℕ) (found : Option ℕ) → state_of names entries ≡ seen → length entries ≡ length names.names → found ≡ last_place (is_same_name asked) names.names →
+  pub seen_place : (names : NameList) (entries : List (Entry V)) (seen : DictionaryState V) (asked : List ℕ) (found : Option ℕ) →
+      state_of names entries ≡ seen → length entries ≡ length names.names → found ≡ last_place (is_same_name asked) names.names →
       last_place (is_same_name asked) (names_of seen.pairs) ≡ found
   seen_place names entries seen asked found is as_many e = ap (last_place (is_same_name asked)) (seen_names names.names entries names.looks seen is as_many) ∙ sym e
 
-  pub state_cut : (old new : NameList) (entries : List (Entry V)) (kept : ℕ) (seen : DictionaryState V) → new ≡ record old { names = take kept old.names } → length entries ≡ kept → pairs_in old.names entries ≡ take (length entries) seen.pairs → old.looks ≡ seen.looks →
+  pub state_cut : (old new : NameList) (entries : List (Entry V)) (kept : ℕ) (seen : DictionaryState V) → new ≡ record old { names = take kept old.names } →
+      length entries ≡ kept → pairs_in old.names entries ≡ take (length entries) seen.pairs → old.looks ≡ seen.looks →
       state_of new entries ≡ record seen { pairs = take kept seen.pairs }
   state_cut old new entries kept seen n e h l =
       ap (λ names. state_of names entries) n ∙ ap (λ (ps : List (Pair V)). record { pairs = ps; looks = old.looks }) (pairs_kept old.names entries kept seen.pairs e h)

@@ -82,7 +82,8 @@ module _ (asked : List ℕ) (names present : List (List ℕ)) (at : Option ℕ) 
     pub walk_looked : (more : ℕ) → more ≤ looks + 1 → more ≤ start + number_of_names (has_bucket (bucket asked)) names
     walk_looked more h = omega (arith, h, w.looked, found.counted)
 
-    pub walk_goes_on : {V : Type 0} (entry : Entry V) (more : ℕ) (next : List (List ℕ)) → IsEntry names place entry → str_eq_ignore_ascii_case (slice_index_or present place []) asked ≡ false → looks ≤ more → more ≤ looks + 1 → next ≡ present →
+    pub walk_goes_on : {V : Type 0} (entry : Entry V) (more : ℕ) (next : List (List ℕ)) → IsEntry names place entry →
+        str_eq_ignore_ascii_case (slice_index_or present place []) asked ≡ false → looks ≤ more → more ≤ looks + 1 → next ≡ present →
         Walk asked names next entry.older more start
     walk_goes_on entry more next e miss up h same_names =
         let shorter : take place (take w.upto names) ≡ take place names = take-take place w.upto names (omega (arith, before)) in

@@ -49,7 +49,8 @@ each_means definitions cheap TypeOut d p (u ∷ []) w need cells world = absurd 
 each_means definitions cheap TypeOut d p (u ∷ a ∷ c) w need cells world = means (6 + 49 * u) (body_of_word TypeOut) TypeOut p (u ∷ a ∷ c) w (omega arith) (cheap p [] u a c w cells world)
 each_means definitions cheap word d p c w need cells world = means (word_price word c w) (body_of_word word) word p c w (omega arith) (definitions word d p [] c w need cells world)
 
-numbered : (word : Word) (o : Option ℕ) (number : ℕ) → o ≡ Some number → body_at o (body_of_word word) ≡ body_of_word word → defined_at o (has_definition word) ≡ true → (slice_index_or whole_library number Empty ≡ body_of_word word) × (has_definition word ≡ true)
+numbered : (word : Word) (o : Option ℕ) (number : ℕ) → o ≡ Some number → body_at o (body_of_word word) ≡ body_of_word word →
+    defined_at o (has_definition word) ≡ true → (slice_index_or whole_library number Empty ≡ body_of_word word) × (has_definition word ≡ true)
 numbered word None number e same d = let no : ⊥ = cc in absurd no
 numbered word (Some k) number e same d = let here : k ≡ number = cc in (subst (λ n. slice_index_or whole_library n Empty ≡ body_of_word word) here same, d)
 

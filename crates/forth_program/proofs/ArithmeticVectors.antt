@@ -1,6 +1,9 @@
 -- Words on numbers: rows made by an independent evaluator.
 use Rattle.std.specs.Prelude.{◌≡◌, [], ◌∷◌, refl}
-use Rattle.word_table.specs.declared.word.Word.TheVariants.{Abs, Aligned, And, CellPlus, Cells, CharPlus, Chars, Equal, FMSlashMod, Greater, Invert, LShift, Less, MStar, Max, Min, Minus, Mod, Negate, OneMinus, OnePlus, Or, Plus, RShift, SMSlashRem, SToD, Slash, SlashMod, Star, StarSlash, StarSlashMod, TwoSlash, TwoStar, ULess, UMSlashMod, UMStar, Xor, ZeroEqual, ZeroLess}
+use Rattle.word_table.specs.declared.word.Word.TheVariants.{Abs, Aligned, And, CellPlus, Cells, CharPlus, Chars, Equal, FMSlashMod, Greater, Invert, LShift}
+use Rattle.word_table.specs.declared.word.Word.TheVariants.{Less, MStar, Max, Min, Minus, Mod, Negate, OneMinus, OnePlus, Or, Plus, RShift, SMSlashRem, SToD}
+use Rattle.word_table.specs.declared.word.Word.TheVariants.{Slash, SlashMod, Star, StarSlash, StarSlashMod, TwoSlash, TwoStar, ULess, UMSlashMod, UMStar, Xor}
+use Rattle.word_table.specs.declared.word.Word.TheVariants.{ZeroEqual, ZeroLess}
 use Rattle.forth_program.specs.Tree.{Plain}
 use Rattle.forth_program.specs.State.{Halted, Underflow}
 use Rattle.forth_program.specs.Step.{step}

@@ -1,7 +1,10 @@
 -- Small programs whose runs and prices the checker computes from the definitions.
 use Rattle.std.proofs.Common.{◌≡◌, ℕ, ◌+◌, ◌*◌, List, [], ◌∷◌, Option, Some, None, refl, true, false}
 use Rattle.std.specs.Prelude.{codes}
-use Rattle.word_table.specs.declared.word.Word.TheVariants.{Within, NotEqual, ZeroGreater, Nip, Tuck, Emit, SlashMod, Slash, Dot, Index, OuterIndex, Plus, Store, Key, Base, QDup, Dup, OneMinus, ToR, DropTop, LessSharp, Sharp, SharpS, SharpGreater, Hold, TypeOut, Execute, Equal, Unloop, Here, CComma, CFetch, Accept, CStore, Fetch, Move, Loop, PlusLoop, SQuote, DotQuote, AbortQuote}
+use Rattle.word_table.specs.declared.word.Word.TheVariants.{Within, NotEqual, ZeroGreater, Nip, Tuck, Emit, SlashMod, Slash, Dot, Index, OuterIndex, Plus}
+use Rattle.word_table.specs.declared.word.Word.TheVariants.{Store, Key, Base, QDup, Dup, OneMinus, ToR, DropTop, LessSharp, Sharp, SharpS, SharpGreater, Hold}
+use Rattle.word_table.specs.declared.word.Word.TheVariants.{TypeOut, Execute, Equal, Unloop, Here, CComma, CFetch, Accept, CStore, Fetch, Move, Loop, PlusLoop}
+use Rattle.word_table.specs.declared.word.Word.TheVariants.{SQuote, DotQuote, AbortQuote}
 use Rattle.forth_program.specs.declared.item.TextKind.TheVariants as text
 use Rattle.forth_program.specs.Tree.{Node, Nodes, Literal, Plain, Call, Text, If, While, Do, Leave, Exit, Empty, Then}
 use Rattle.forth_program.specs.State.{End, Halted, InputEnded, Outside, Underflow, Unbalanced, Outcome}
@@ -115,12 +118,22 @@ unfolding source_run steps step
 by_token = refl
 
 -- : F 10 0 DO I 2 = IF UNLOOP EXIT THEN I . LOOP ; : MAIN F 7 . ;
-leaves_early : seen (source_run (program (items (Literal 10 ∷ Literal 0 ∷ Do (items (Plain Index ∷ Literal 2 ∷ Plain Equal ∷ If (items (Plain Unloop ∷ Exit ∷ [])) Empty ∷ Plain Index ∷ Plain Dot ∷ [])) false ∷ []) ∷ items (Call 0 ∷ Literal 7 ∷ Plain Dot ∷ []) ∷ []) 1 []) [] 40) ≡ (Some (Halted 0), codes "0 1 7 ")
+leaves_early : seen
+    (source_run
+    (program
+    (items
+    (Literal 10 ∷ Literal 0
+    ∷ Do (items (Plain Index ∷ Literal 2 ∷ Plain Equal ∷ If (items (Plain Unloop ∷ Exit ∷ [])) Empty ∷ Plain Index ∷ Plain Dot ∷ [])) false ∷ [])
+    ∷ items (Call 0 ∷ Literal 7 ∷ Plain Dot ∷ []) ∷ []) 1 []) [] 40) ≡ (Some (Halted 0), codes "0 1 7 ")
 unfolding source_run steps step
 leaves_early = refl
 
 -- 10 0 DO LEAVE LOOP 87 C, 88 C, HERE 1- C@ EMIT
-last_byte : seen (source_run (main (Literal 10 ∷ Literal 0 ∷ Do (items (Leave ∷ [])) false ∷ Literal 87 ∷ Plain CComma ∷ Literal 88 ∷ Plain CComma ∷ Plain Here ∷ Plain OneMinus ∷ Plain CFetch ∷ Plain Emit ∷ [])) [] 20) ≡ (Some (Halted 0), codes "X")
+last_byte : seen
+    (source_run
+    (main
+    (Literal 10 ∷ Literal 0 ∷ Do (items (Leave ∷ [])) false ∷ Literal 87 ∷ Plain CComma ∷ Literal 88 ∷ Plain CComma ∷ Plain Here ∷ Plain OneMinus ∷ Plain CFetch
+    ∷ Plain Emit ∷ [])) [] 20) ≡ (Some (Halted 0), codes "X")
 unfolding source_run steps step
 last_byte = refl
 
@@ -130,7 +143,12 @@ unfolding source_run steps step
 stops_with_text = refl
 
 -- 5 1 10 WITHIN . 5 5 <> . 3 0> . 1 2 NIP . 1 2 TUCK . . .
-core_extension : seen (source_run (main (Literal 5 ∷ Literal 1 ∷ Literal 10 ∷ Plain Within ∷ Plain Dot ∷ Literal 5 ∷ Literal 5 ∷ Plain NotEqual ∷ Plain Dot ∷ Literal 3 ∷ Plain ZeroGreater ∷ Plain Dot ∷ Literal 1 ∷ Literal 2 ∷ Plain Nip ∷ Plain Dot ∷ Literal 1 ∷ Literal 2 ∷ Plain Tuck ∷ Plain Dot ∷ Plain Dot ∷ Plain Dot ∷ [])) [] 23) ≡ (Some (Halted 0), codes "-1 0 -1 2 2 1 2 ")
+core_extension : seen
+    (source_run
+    (main
+    (Literal 5 ∷ Literal 1 ∷ Literal 10 ∷ Plain Within ∷ Plain Dot ∷ Literal 5 ∷ Literal 5 ∷ Plain NotEqual ∷ Plain Dot ∷ Literal 3 ∷ Plain ZeroGreater
+    ∷ Plain Dot ∷ Literal 1 ∷ Literal 2 ∷ Plain Nip ∷ Plain Dot ∷ Literal 1 ∷ Literal 2 ∷ Plain Tuck ∷ Plain Dot ∷ Plain Dot ∷ Plain Dot ∷ [])) [] 23)
+    ≡ (Some (Halted 0), codes "-1 0 -1 2 2 1 2 ")
 unfolding source_run steps step
 core_extension = refl
 
@@ -138,11 +156,17 @@ looks_for_depth : uses_depth greeting ≡ false
 looks_for_depth = refl
 
 -- the prices of steps that are no words are those of the table
-prices_of_the_table : (turn_price false ≡ (entry_of Loop).base) × (turn_price true ≡ (entry_of PlusLoop).base) × (text_price text.Address 9 [] ≡ (entry_of SQuote).base) × (text_price text.Print 9 [] ≡ (entry_of DotQuote).base + 9 * (entry_of DotQuote).per) × (text_price text.Abort 9 (1 ∷ []) ≡ (entry_of AbortQuote).base + 9 * (entry_of AbortQuote).per)
+prices_of_the_table : (turn_price false ≡ (entry_of Loop).base) × (turn_price true ≡ (entry_of PlusLoop).base)
+    × (text_price text.Address 9 [] ≡ (entry_of SQuote).base) × (text_price text.Print 9 [] ≡ (entry_of DotQuote).base + 9 * (entry_of DotQuote).per)
+    × (text_price text.Abort 9 (1 ∷ []) ≡ (entry_of AbortQuote).base + 9 * (entry_of AbortQuote).per)
 prices_of_the_table = (refl, refl, refl, refl, refl)
 
 -- 513 8200 ! 8201 @ . 8201 C@ . 7 8201 C! 8200 @ .
-bytes_of_a_cell : seen (source_run (main (Literal 513 ∷ Literal 8200 ∷ Plain Store ∷ Literal 8201 ∷ Plain Fetch ∷ Plain Dot ∷ Literal 8201 ∷ Plain CFetch ∷ Plain Dot ∷ Literal 7 ∷ Literal 8201 ∷ Plain CStore ∷ Literal 8200 ∷ Plain Fetch ∷ Plain Dot ∷ [])) [] 40) ≡ (Some (Halted 0), codes "513 2 1793 ")
+bytes_of_a_cell : seen
+    (source_run
+    (main
+    (Literal 513 ∷ Literal 8200 ∷ Plain Store ∷ Literal 8201 ∷ Plain Fetch ∷ Plain Dot ∷ Literal 8201 ∷ Plain CFetch ∷ Plain Dot ∷ Literal 7 ∷ Literal 8201
+    ∷ Plain CStore ∷ Literal 8200 ∷ Plain Fetch ∷ Plain Dot ∷ [])) [] 40) ≡ (Some (Halted 0), codes "513 2 1793 ")
 unfolding source_run steps step
 bytes_of_a_cell = refl
 
@@ -152,11 +176,20 @@ unfolding source_run steps step
 ends_of_data_space = refl
 
 -- 65 C, 66 C, 67 C, 8320 8321 3 MOVE 8320 4 TYPE 8321 8320 3 MOVE 8320 4 TYPE 65 16384 C!
-moves_both_ways : seen (source_run (main (Literal 65 ∷ Plain CComma ∷ Literal 66 ∷ Plain CComma ∷ Literal 67 ∷ Plain CComma ∷ Literal 8320 ∷ Literal 8321 ∷ Literal 3 ∷ Plain Move ∷ Literal 8320 ∷ Literal 4 ∷ Plain TypeOut ∷ Literal 8321 ∷ Literal 8320 ∷ Literal 3 ∷ Plain Move ∷ Literal 8320 ∷ Literal 4 ∷ Plain TypeOut ∷ Literal 65 ∷ Literal 16384 ∷ Plain CStore ∷ [])) [] 60) ≡ (Some (Outside 16384), codes "AABCABCC")
+moves_both_ways : seen
+    (source_run
+    (main
+    (Literal 65 ∷ Plain CComma ∷ Literal 66 ∷ Plain CComma ∷ Literal 67 ∷ Plain CComma ∷ Literal 8320 ∷ Literal 8321 ∷ Literal 3 ∷ Plain Move ∷ Literal 8320
+    ∷ Literal 4 ∷ Plain TypeOut ∷ Literal 8321 ∷ Literal 8320 ∷ Literal 3 ∷ Plain Move ∷ Literal 8320 ∷ Literal 4 ∷ Plain TypeOut ∷ Literal 65 ∷ Literal 16384
+    ∷ Plain CStore ∷ [])) [] 60) ≡ (Some (Outside 16384), codes "AABCABCC")
 unfolding source_run steps step
 moves_both_ways = refl
 
 -- 65 16384 ! 16386 @ EMIT 16386 C@ EMIT 258 16388 !, on two bytes of input
-by_ports : seen (source_run (main (Literal 65 ∷ Literal 16384 ∷ Plain Store ∷ Literal 16386 ∷ Plain Fetch ∷ Plain Emit ∷ Literal 16386 ∷ Plain CFetch ∷ Plain Emit ∷ Literal 258 ∷ Literal 16388 ∷ Plain Store ∷ [])) (codes "xyz") 60) ≡ (Some (Halted 2), codes "Axy")
+by_ports : seen
+    (source_run
+    (main
+    (Literal 65 ∷ Literal 16384 ∷ Plain Store ∷ Literal 16386 ∷ Plain Fetch ∷ Plain Emit ∷ Literal 16386 ∷ Plain CFetch ∷ Plain Emit ∷ Literal 258
+    ∷ Literal 16388 ∷ Plain Store ∷ [])) (codes "xyz") 60) ≡ (Some (Halted 2), codes "Axy")
 unfolding source_run steps step
 by_ports = refl

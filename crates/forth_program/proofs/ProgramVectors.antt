@@ -1,6 +1,9 @@
 -- Small programs: rows made by an independent evaluator.
 use Rattle.std.specs.Prelude.{◌≡◌, [], ◌∷◌, refl, None, Some, true, false, codes}
-use Rattle.word_table.specs.declared.word.Word.TheVariants.{Accept, Align, Allot, CComma, CStore, Cells, Comma, Cr, Dot, DropTop, Dup, Emit, Equal, Execute, Fetch, Fill, Here, Hold, Index, Key, LessSharp, Move, OneMinus, OnePlus, OuterIndex, Plus, QDup, RFetch, RFrom, Rot, SMSlashRem, SToD, Sharp, SharpGreater, SharpS, SlashMod, Store, Swap, ToNumber, ToR, TypeOut, UDot, Unloop}
+use Rattle.word_table.specs.declared.word.Word.TheVariants.{Accept, Align, Allot, CComma, CStore, Cells, Comma, Cr, Dot, DropTop, Dup, Emit, Equal, Execute}
+use Rattle.word_table.specs.declared.word.Word.TheVariants.{Fetch, Fill, Here, Hold, Index, Key, LessSharp, Move, OneMinus, OnePlus, OuterIndex, Plus, QDup}
+use Rattle.word_table.specs.declared.word.Word.TheVariants.{RFetch, RFrom, Rot, SMSlashRem, SToD, Sharp, SharpGreater, SharpS, SlashMod, Store, Swap, ToNumber}
+use Rattle.word_table.specs.declared.word.Word.TheVariants.{ToR, TypeOut, UDot, Unloop}
 use Rattle.forth_program.specs.declared.item.TextKind.TheVariants as text
 use Rattle.forth_program.specs.Tree.{Literal, Plain, Call, Child, Text, If, Until, While, Do, Leave, Exit, Empty}
 use Rattle.forth_program.specs.State.{Halted, InputEnded, Outside, Underflow, Unbalanced}
@@ -32,7 +35,12 @@ leave_deep = main (Literal 5 ∷ Literal 0 ∷ Do (body (Until (body (Plain Inde
 
 -- : F 10 0 DO I 4 = IF UNLOOP EXIT THEN I . LOOP 77 . ; : MAIN F 8 . ;
 abbrev unloop_exit : SourceProgram
-unloop_exit = program ((body (Literal 10 ∷ Literal 0 ∷ Do (body (Plain Index ∷ Literal 4 ∷ Plain Equal ∷ If (body (Plain Unloop ∷ Exit ∷ [])) Empty ∷ Plain Index ∷ Plain Dot ∷ [])) false ∷ Literal 77 ∷ Plain Dot ∷ [])) ∷ (body (Call 0 ∷ Literal 8 ∷ Plain Dot ∷ [])) ∷ []) 1 [] (with_data 128 [])
+unloop_exit =
+    program
+    ((body
+    (Literal 10 ∷ Literal 0
+    ∷ Do (body (Plain Index ∷ Literal 4 ∷ Plain Equal ∷ If (body (Plain Unloop ∷ Exit ∷ [])) Empty ∷ Plain Index ∷ Plain Dot ∷ [])) false ∷ Literal 77
+    ∷ Plain Dot ∷ [])) ∷ (body (Call 0 ∷ Literal 8 ∷ Plain Dot ∷ [])) ∷ []) 1 [] (with_data 128 [])
 
 -- : MAIN 3 BEGIN ?DUP WHILE DUP . 1- REPEAT ;
 abbrev while : SourceProgram
@@ -44,7 +52,10 @@ until_nested = main (Until (body (Until (body (Plain Key ∷ Plain Dup ∷ Plain
 
 -- : T IF 65 EMIT ELSE 66 EMIT THEN 67 EMIT ; : MAIN 1 T 0 T -1 T ;
 abbrev if_else : SourceProgram
-if_else = program ((body (If (body (Literal 65 ∷ Plain Emit ∷ [])) (body (Literal 66 ∷ Plain Emit ∷ [])) ∷ Literal 67 ∷ Plain Emit ∷ [])) ∷ (body (Literal 1 ∷ Call 0 ∷ Literal 0 ∷ Call 0 ∷ Literal 65535 ∷ Call 0 ∷ [])) ∷ []) 1 [] (with_data 128 [])
+if_else =
+    program
+    ((body (If (body (Literal 65 ∷ Plain Emit ∷ [])) (body (Literal 66 ∷ Plain Emit ∷ [])) ∷ Literal 67 ∷ Plain Emit ∷ []))
+    ∷ (body (Literal 1 ∷ Call 0 ∷ Literal 0 ∷ Call 0 ∷ Literal 65535 ∷ Call 0 ∷ [])) ∷ []) 1 [] (with_data 128 [])
 
 -- : F DUP IF DUP . 1- RECURSE THEN ; : MAIN 3 F DROP ;
 abbrev recurse : SourceProgram
@@ -80,7 +91,12 @@ execute_value = program ((body (Literal 1 ∷ Plain Execute ∷ Plain Dot ∷ Li
 
 -- : ARR CREATE 2* ALLOT DOES> SWAP CELLS + ; 4 ARR X : MAIN 7 2 X ! 2 X @ . 1 X @ . ;
 abbrev child : SourceProgram
-child = program ((body (Plain Swap ∷ Plain Cells ∷ Plain Plus ∷ [])) ∷ (body (Literal 7 ∷ Literal 2 ∷ Child 0 8320 ∷ Plain Store ∷ Literal 2 ∷ Child 0 8320 ∷ Plain Fetch ∷ Plain Dot ∷ Literal 1 ∷ Child 0 8320 ∷ Plain Fetch ∷ Plain Dot ∷ [])) ∷ []) 1 [] (with_data 136 [])
+child =
+    program
+    ((body (Plain Swap ∷ Plain Cells ∷ Plain Plus ∷ []))
+    ∷ (body
+    (Literal 7 ∷ Literal 2 ∷ Child 0 8320 ∷ Plain Store ∷ Literal 2 ∷ Child 0 8320 ∷ Plain Fetch ∷ Plain Dot ∷ Literal 1 ∷ Child 0 8320 ∷ Plain Fetch
+    ∷ Plain Dot ∷ [])) ∷ []) 1 [] (with_data 136 [])
 
 -- : K CREATE , DOES> @ ; 9 K NINE ' NINE CONSTANT T : MAIN T EXECUTE . NINE . ;
 abbrev child_token : SourceProgram
@@ -104,7 +120,12 @@ reads_number = program ((body (Literal 8320 ∷ Literal 4 ∷ Plain Accept ∷ L
 
 -- VARIABLE B 20 ALLOT : MAIN B 6 65 FILL 66 B C! B B 1+ 4 MOVE B 6 TYPE B 1+ B 3 MOVE B 6 TYPE ;
 abbrev fill_move : SourceProgram
-fill_move = program ((body (Literal 8320 ∷ Literal 6 ∷ Literal 65 ∷ Plain Fill ∷ Literal 66 ∷ Literal 8320 ∷ Plain CStore ∷ Literal 8320 ∷ Literal 8320 ∷ Plain OnePlus ∷ Literal 4 ∷ Plain Move ∷ Literal 8320 ∷ Literal 6 ∷ Plain TypeOut ∷ Literal 8320 ∷ Plain OnePlus ∷ Literal 8320 ∷ Literal 3 ∷ Plain Move ∷ Literal 8320 ∷ Literal 6 ∷ Plain TypeOut ∷ [])) ∷ []) 0 [] (with_data 150 [])
+fill_move =
+    program
+    ((body
+    (Literal 8320 ∷ Literal 6 ∷ Literal 65 ∷ Plain Fill ∷ Literal 66 ∷ Literal 8320 ∷ Plain CStore ∷ Literal 8320 ∷ Literal 8320 ∷ Plain OnePlus ∷ Literal 4
+    ∷ Plain Move ∷ Literal 8320 ∷ Literal 6 ∷ Plain TypeOut ∷ Literal 8320 ∷ Plain OnePlus ∷ Literal 8320 ∷ Literal 3 ∷ Plain Move ∷ Literal 8320
+    ∷ Literal 6 ∷ Plain TypeOut ∷ [])) ∷ []) 0 [] (with_data 150 [])
 
 -- : MAIN 5 >R R@ . R> . 6 >R 3 0 DO I . LOOP R> . ;
 abbrev returns : SourceProgram

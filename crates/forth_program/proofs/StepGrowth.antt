@@ -11,7 +11,9 @@ use Rattle.forth_program.specs.State.{Entry, Cell, Loop, Work, Frame, World, Sta
 use Rattle.forth_program.specs.Program.{SourceProgram, token_of}
 use Rattle.forth_program.specs.ByteWords.{type_out}
 use Rattle.forth_program.specs.Meaning.{meaning}
-use Rattle.forth_program.specs.Step.{First, BodyEnd, IsLiteral, IsWord, IsCall, IsChild, IsText, IsIf, IsTrueEnd, IsUntil, IsWhile, IsRepeat, IsAgain, IsDo, IsQDo, IsTurn, IsOf, IsEndOf, IsEndCase, IsLeave, IsExit, first_work, on_cells, with_token, word_step, text_step, unwound, on_flag, loop_begins, loop_may_begin, of_chooses, case_ends, crosses, turned, turn, leave, act, step}
+use Rattle.forth_program.specs.Step.{First, BodyEnd, IsLiteral, IsWord, IsCall, IsChild, IsText, IsIf, IsTrueEnd, IsUntil, IsWhile, IsRepeat, IsAgain, IsDo}
+use Rattle.forth_program.specs.Step.{IsQDo, IsTurn, IsOf, IsEndOf, IsEndCase, IsLeave, IsExit, first_work, on_cells, with_token, word_step, text_step, unwound}
+use Rattle.forth_program.specs.Step.{on_flag, loop_begins, loop_may_begin, of_chooses, case_ends, crosses, turned, turn, leave, act, step}
 use Rattle.forth_program.specs.Run.{and_then, steps, world_of}
 use Rattle.forth_program.specs.RunLaws.{IsLater}
 use Rattle.forth_program.proofs.WordGrowth.{same, later_later, after, bind, type_later, meaning_later}

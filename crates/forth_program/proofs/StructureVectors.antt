@@ -40,7 +40,10 @@ echoes = main (Again (body (Plain Key ∷ Plain Emit ∷ [])) ∷ [])
 
 -- : F BEGIN KEY DUP 48 = IF DROP EXIT THEN EMIT AGAIN ; : MAIN F 33 EMIT ;
 abbrev echoes_up_to_0 : SourceProgram
-echoes_up_to_0 = program (body (Again (body (Plain Key ∷ Plain Dup ∷ Literal 48 ∷ Plain Equal ∷ If (body (Plain DropTop ∷ Exit ∷ [])) Empty ∷ Plain Emit ∷ [])) ∷ []) ∷ body (Call 0 ∷ Literal 33 ∷ Plain Emit ∷ []) ∷ []) 1 [] (with_data 128 [])
+echoes_up_to_0 =
+    program
+    (body (Again (body (Plain Key ∷ Plain Dup ∷ Literal 48 ∷ Plain Equal ∷ If (body (Plain DropTop ∷ Exit ∷ [])) Empty ∷ Plain Emit ∷ [])) ∷ [])
+    ∷ body (Call 0 ∷ Literal 33 ∷ Plain Emit ∷ []) ∷ []) 1 [] (with_data 128 [])
 
 -- : MAIN BEGIN AGAIN ;
 abbrev for_ever : SourceProgram
@@ -48,7 +51,12 @@ for_ever = main (Again Empty ∷ [])
 
 -- : K CASE 1 OF 65 ENDOF 2 OF 66 ENDOF 67 SWAP ENDCASE EMIT ; : MAIN 1 K 2 K 9 K ;
 abbrev letters : SourceProgram
-letters = program (body (Case (Arm (body (Literal 1 ∷ [])) (body (Literal 65 ∷ [])) (Arm (body (Literal 2 ∷ [])) (body (Literal 66 ∷ [])) NoArm)) (body (Literal 67 ∷ Plain Swap ∷ [])) ∷ Plain Emit ∷ []) ∷ body (Literal 1 ∷ Call 0 ∷ Literal 2 ∷ Call 0 ∷ Literal 9 ∷ Call 0 ∷ []) ∷ []) 1 [] (with_data 128 [])
+letters =
+    program
+    (body
+    (Case (Arm (body (Literal 1 ∷ [])) (body (Literal 65 ∷ [])) (Arm (body (Literal 2 ∷ [])) (body (Literal 66 ∷ [])) NoArm))
+    (body (Literal 67 ∷ Plain Swap ∷ [])) ∷ Plain Emit ∷ []) ∷ body (Literal 1 ∷ Call 0 ∷ Literal 2 ∷ Call 0 ∷ Literal 9 ∷ Call 0 ∷ []) ∷ []) 1 []
+    (with_data 128 [])
 
 -- : MAIN 5 CASE DUP OF 65 EMIT ENDOF ENDCASE 66 EMIT ;
 abbrev equals_itself : SourceProgram

@@ -1,7 +1,9 @@
 -- An item's tree, at the lists that its structures hold.
 use Rattle.std.proofs.Common.{◌≡◌, Bool, ◌||◌, List, [], ◌∷◌, ◌++◌, refl, sym, ap, ◌∙◌}
 use Rattle.forth_program.specs.declared.item.Item.{Item, If, Until, While, Again, Do, QDo, Case, Row_of-Item, end_of-Item, more_of-Item, items-the_row-Item, items_hidden-the_row-Item-0}
-use Rattle.forth_program.specs.declared.item.Item.TheBlock.{hidden-the_row-Item-0, shown-the_row-Item-0, items_shown-the_row-Item-0, Row_of-Arms-list-2, end_of-Arms-list-2, more_of-Arms-list-2, items-the_row-Arms-list-2, items_shown-the_row-Arms-list-2-1, the_data-1, struct-Arms}
+use Rattle.forth_program.specs.declared.item.Item.TheBlock.{hidden-the_row-Item-0, shown-the_row-Item-0, items_shown-the_row-Item-0, Row_of-Arms-list-2}
+use Rattle.forth_program.specs.declared.item.Item.TheBlock.{end_of-Arms-list-2, more_of-Arms-list-2, items-the_row-Arms-list-2}
+use Rattle.forth_program.specs.declared.item.Item.TheBlock.{items_shown-the_row-Arms-list-2-1, the_data-1, struct-Arms}
 use Rattle.forth_program.specs.declared.item.Item.TheViews.{outs-struct-Arms}
 use Rattle.forth_program.specs.declared.item.Items.{Items}
 use Rattle.forth_program.specs.declared.item.Arms.{Arms}

@@ -135,12 +135,19 @@ move_later n a b w = chosen w (nat_lt a b) (move_down n a b w) (move_up n a b w)
 
 accept_later : (n a kept : ℕ) (w : World) → IsLater w (after (accept n a kept w))
 accept_later zero a kept w = same w
-accept_later (suc n) a kept w = bind w (take_key w) (λ c w'. elim (c == 10) [ true ↦ Gives kept w' | false ↦ store_byte a c w' ▸ λ _. accept n (sum_of a 1) (kept + 1) ]) (key_later w) (λ c w'. by_bool w' (c == 10) (Gives kept w') (store_byte a c w' ▸ λ _. accept n (sum_of a 1) (kept + 1)) (same w') (bind w' (store_byte a c w') _ (store_byte_later a c w') (λ _ w''. accept_later n (sum_of a 1) (kept + 1) w'')))
+accept_later (suc n) a kept w =
+    bind w (take_key w) (λ c w'. elim (c == 10) [ true ↦ Gives kept w' | false ↦ store_byte a c w' ▸ λ _. accept n (sum_of a 1) (kept + 1) ]) (key_later w)
+    (λ c w'.
+    by_bool w' (c == 10) (Gives kept w') (store_byte a c w' ▸ λ _. accept n (sum_of a 1) (kept + 1)) (same w')
+    (bind w' (store_byte a c w') _ (store_byte_later a c w') (λ _ w''. accept_later n (sum_of a 1) (kept + 1) w'')))
 
 number_later : (b n a ud : ℕ) (w : World) → IsLater w (after (number_from b n a ud w))
 number_later b zero a ud w = same w
 number_later b (suc n) a ud w =
-    bind w (fetch_byte a w) _ (fetch_byte_later a w) (λ c w'. by_option w' (digit_of b c) (Gives (ud, a, suc n) w') (λ d. number_from b n (sum_of a 1) ((ud * b + d) % 4294967296) w') (same w') (λ d. number_later b n (sum_of a 1) ((ud * b + d) % 4294967296) w'))
+    bind w (fetch_byte a w) _ (fetch_byte_later a w)
+    (λ c w'.
+    by_option w' (digit_of b c) (Gives (ud, a, suc n) w') (λ d. number_from b n (sum_of a 1) ((ud * b + d) % 4294967296) w') (same w')
+    (λ d. number_later b n (sum_of a 1) ((ud * b + d) % 4294967296) w'))
 
 -- ---- pictured output
 
@@ -148,7 +155,13 @@ open_later : (w : World) → IsLater w (after (open_picture w))
 open_later w = store_later (w.data_start + 2) (w.data_start + 96) w
 
 hold_later : (c : ℕ) (w : World) → IsLater w (after (hold c w))
-hold_later c w = bind w (fetch (w.data_start + 2) w) _ (fetch_later (w.data_start + 2) w) (λ h w'. chosen w' (nat_le (w'.data_start + 16) (difference_of h 1) && nat_le (difference_of h 1) (w'.data_start + 95)) (store (w'.data_start + 2) (difference_of h 1) w' ▸ λ _. store_byte (difference_of h 1) c) _ (bind w' (store (w'.data_start + 2) (difference_of h 1) w') _ (store_later (w'.data_start + 2) (difference_of h 1) w') (λ _ w''. store_byte_later (difference_of h 1) c w'')) (same w'))
+hold_later c w =
+    bind w (fetch (w.data_start + 2) w) _ (fetch_later (w.data_start + 2) w)
+    (λ h w'.
+    chosen w' (nat_le (w'.data_start + 16) (difference_of h 1) && nat_le (difference_of h 1) (w'.data_start + 95))
+    (store (w'.data_start + 2) (difference_of h 1) w' ▸ λ _. store_byte (difference_of h 1) c) _
+    (bind w' (store (w'.data_start + 2) (difference_of h 1) w') _ (store_later (w'.data_start + 2) (difference_of h 1) w')
+    (λ _ w''. store_byte_later (difference_of h 1) c w'')) (same w'))
 
 sign_later : (b : Bool) (w : World) → IsLater w (after (hold_sign b w))
 sign_later true w = hold_later 45 w

@@ -7,7 +7,8 @@ use Rattle.cell_math.specs.Cell.{sum_of, difference_of, signed}
 use Rattle.forth_program.specs.declared.item.TextKind.{TextKind}
 use Rattle.forth_program.specs.declared.item.TextKind.TheVariants as text
 use Rattle.forth_program.specs.Tree.{Node, Nodes, Arms, Literal, Plain, Call, Child, Text, If, Until, While, Again, Do, QDo, Case, Leave, Exit, Empty, Then, NoArm, Arm}
-use Rattle.forth_program.specs.State.{Entry, Cell, Loop, Work, Todo, TrueEnd, UntilTest, WhileTest, Repeat, BeginAgain, Turn, OfTest, EndOf, EndCase, Frame, State, Reply, Gives, Stops, ◌▸◌, Outcome, Goes, Ends, Halted, Underflow, Unbalanced}
+use Rattle.forth_program.specs.State.{Entry, Cell, Loop, Work, Todo, TrueEnd, UntilTest, WhileTest, Repeat, BeginAgain, Turn, OfTest, EndOf, EndCase, Frame}
+use Rattle.forth_program.specs.State.{State, Reply, Gives, Stops, ◌▸◌, Outcome, Goes, Ends, Halted, Underflow, Unbalanced}
 use Rattle.forth_program.specs.Program.{SourceProgram, body_of, token_of}
 use Rattle.forth_program.specs.ByteWords.{type_out}
 use Rattle.forth_program.specs.Meaning.{meaning}

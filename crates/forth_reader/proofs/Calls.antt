@@ -4,9 +4,15 @@ use Rattle.forth_reader.specs.declared.refusal.ReadCause.{ReadCause}
 use Rattle.forth_reader.specs.declared.refusal.ReadCause.TheVariants as cause
 use Rattle.forth_reader.specs.Bytes.{is_blank}
 use Rattle.forth_reader.specs.Reading.{Reading, NoMore, Reads, Refuses, StringReading, Quoted, Unquoted, may_follow_token, next_from, name_from, string_from}
-use Rattle.forth_reader.specs.Splitting.{IsBadByte, is_parenthesis_byte, is_line_byte, IsCommentText, Piece, Blank, Parenthesis, Line, ArePieces, pieces_then, tokens_behind, RunIs, is_read, is_too_long, meets_bad_byte, NameAt, NextAt, nothing, last_line, bad_byte, bad_in_line, bad_in_parenthesis, open_parenthesis, run, NameIs, NextIs, StringIs}
+use Rattle.forth_reader.specs.Splitting.{IsBadByte, is_parenthesis_byte, is_line_byte, IsCommentText, Piece, Blank, Parenthesis, Line, ArePieces, pieces_then}
+use Rattle.forth_reader.specs.Splitting.{tokens_behind, RunIs, is_read, is_too_long, meets_bad_byte, NameAt, NextAt, nothing, last_line, bad_byte, bad_in_line}
+use Rattle.forth_reader.specs.Splitting.{bad_in_parenthesis, open_parenthesis, run, NameIs, NextIs, StringIs}
 use Rattle.forth_reader.specs.ReaderState.{ReaderState, unless_failed, unless_failed_string, next_reading, name_reading, string_reading, TookToken, TookString}
-use Rattle.forth_reader.specs.TokenList.{PlacedToken, TokensEnd, AllRead, Faulty, Kind, OrdinaryToken, OpensComment, OpensLine, BeforeString, kind_of, is_string_word, Passes, Fails, Behind, plain, comment, open_comment, bad_in_comment, line, line_at_end, bad_line, string, bad_string, IsTokenAt, EndIs, all_read, refused, fails_behind, AreTokensFrom, reader_start, NoneNamed, lone_token, Given, by_name, by_next, by_string, Gave, GaveNoToken, no_next, no_name, next_refused, name_refused, string_refused, is_comment_kind, without_comments, CallsGiveTokens}
+use Rattle.forth_reader.specs.TokenList.{PlacedToken, TokensEnd, AllRead, Faulty, Kind, OrdinaryToken, OpensComment, OpensLine, BeforeString, kind_of}
+use Rattle.forth_reader.specs.TokenList.{is_string_word, Passes, Fails, Behind, plain, comment, open_comment, bad_in_comment, line, line_at_end, bad_line}
+use Rattle.forth_reader.specs.TokenList.{string, bad_string, IsTokenAt, EndIs, all_read, refused, fails_behind, AreTokensFrom, reader_start, NoneNamed}
+use Rattle.forth_reader.specs.TokenList.{lone_token, Given, by_name, by_next, by_string, Gave, GaveNoToken, no_next, no_name, next_refused, name_refused}
+use Rattle.forth_reader.specs.TokenList.{string_refused, is_comment_kind, without_comments, CallsGiveTokens}
 use Rattle.forth_reader.proofs.ReadingToSplitting.{next_exists, name_exists, string_exists, name_alone, name_behind}
 use Rattle.forth_reader.proofs.TokenKinds.{kind_is}
 use Rattle.forth_reader.proofs.TokenLists.{run_rest, no_more_is, behind_shorter}
@@ -78,8 +84,23 @@ module _ (named : ℕ → Bool) (size : ℕ) where
       record {
         all = record { token = byte ∷ []; start = size - 1 - length behind; number = k + 1; skipped = skipped; string = None } ∷ is.all;
         are = (rest, (record { behind = behind; reads = reads; starts = omega (arith, small); stands = subst (λ x. Behind x behind (Passes skipped None rest)) (sym kinds) stands }, is.are));
-        same = ap (λ x. elim (is_comment_kind x) [ true ↦ without_comments named is.all | false ↦ record { token = byte ∷ []; start = size - 1 - length behind; number = k + 1; skipped = skipped; string = None } ∷ without_comments named is.all ]) kinds
-            ∙ ap (λ t. elim t [ true ↦ without_comments named is.all | false ↦ record { token = byte ∷ []; start = size - 1 - length behind; number = k + 1; skipped = skipped; string = None } ∷ without_comments named is.all ]) is_comment ∙ is.same;
+        same =
+            ap
+            (λ x.
+            elim (is_comment_kind x) [
+              | true ↦ without_comments named is.all
+              | false ↦
+                  record { token = byte ∷ []; start = size - 1 - length behind; number = k + 1; skipped = skipped; string = None }
+                  ∷ without_comments named is.all
+            ]) kinds
+            ∙ ap
+            (λ t.
+            elim t [
+              | true ↦ without_comments named is.all
+              | false ↦
+                  record { token = byte ∷ []; start = size - 1 - length behind; number = k + 1; skipped = skipped; string = None }
+                  ∷ without_comments named is.all
+            ]) is_comment ∙ is.same;
       }
 
   pieces_first : (k : ℕ) (pieces : List Piece) (rest : List ℕ) (tokens : List PlacedToken) (end : TokensEnd) → ArePieces pieces → NoneNamed named k (tokens_behind k pieces) → length (pieces_then pieces rest) ≤ size →

@@ -29,8 +29,14 @@ places n base d len value = next_place n base d (base ^ len) value ∙ ap (λ p.
 all_digits : (base : ℕ) (is_negative : Bool) (n : ℕ) (bs : List ℕ) → read_behind base is_negative n bs ≡ cell_if (list_all (is_digit base) bs) is_negative (n * base ^ length bs + digits_value base bs)
 all_digits base s n [] = ap (signed_cell s) (no_place n base)
 all_digits base s n (b ∷ bs) =
-    let more : read_behind base s (n * base + digit_value b) bs ≡ cell_if (list_all (is_digit base) bs) s (n * base ^ length (b ∷ bs) + digits_value base (b ∷ bs)) = all_digits base s (n * base + digit_value b) bs ∙ ap (cell_if (list_all (is_digit base) bs) s) (places n base (digit_value b) (length bs) (digits_value base bs)) in
-    elim (is_digit base b) as (λ t. elim t [ true ↦ read_behind base s (n * base + digit_value b) bs | false ↦ NotNumber ] ≡ cell_if (t && list_all (is_digit base) bs) s (n * base ^ length (b ∷ bs) + digits_value base (b ∷ bs))) [ true ↦ more | false ↦ refl ]
+    let more : read_behind base s (n * base + digit_value b) bs
+    ≡ cell_if (list_all (is_digit base) bs) s (n * base ^ length (b ∷ bs) + digits_value base (b ∷ bs)) =
+    all_digits base s (n * base + digit_value b) bs
+    ∙ ap (cell_if (list_all (is_digit base) bs) s) (places n base (digit_value b) (length bs) (digits_value base bs)) in
+    elim (is_digit base b) as
+    (λ t.
+    elim t [ true ↦ read_behind base s (n * base + digit_value b) bs | false ↦ NotNumber ]
+    ≡ cell_if (t && list_all (is_digit base) bs) s (n * base ^ length (b ∷ bs) + digits_value base (b ∷ bs))) [ true ↦ more | false ↦ refl ]
 
 pub from_left : (base : ℕ) (is_negative : Bool) (text : List ℕ) → 0 < length text → read_behind base is_negative 0 text ≡ digits_read base is_negative text
 from_left base s [] h = absurd (omega arith)
@@ -47,7 +53,8 @@ grows base n d b h = grind (arith)
 alike : (is_negative : Bool) (base n m : ℕ) (bs : List ℕ) → 1 ≤ base → 65536 ≤ n → 65536 ≤ m → read_behind base is_negative n bs ≡ read_behind base is_negative m bs
 alike s base n m [] b hn hm = past s n hn ∙ sym (past s m hm)
 alike s base n m (x ∷ bs) b hn hm =
-    let e : read_behind base s (n * base + digit_value x) bs ≡ read_behind base s (m * base + digit_value x) bs = alike s base (n * base + digit_value x) (m * base + digit_value x) bs b (grows base n (digit_value x) b hn) (grows base m (digit_value x) b hm) in
+    let e : read_behind base s (n * base + digit_value x) bs ≡ read_behind base s (m * base + digit_value x) bs =
+    alike s base (n * base + digit_value x) (m * base + digit_value x) bs b (grows base n (digit_value x) b hn) (grows base m (digit_value x) b hm) in
     elim (is_digit base x) as (λ t. elim t [ true ↦ read_behind base s (n * base + digit_value x) bs | false ↦ NotNumber ] ≡ elim t [ true ↦ read_behind base s (m * base + digit_value x) bs | false ↦ NotNumber ]) [ true ↦ e | false ↦ refl ]
 
 held : (is_negative : Bool) (base n : ℕ) (bs : List ℕ) → 1 ≤ base → read_behind base is_negative (min n 65536) bs ≡ read_behind base is_negative n bs
@@ -57,7 +64,8 @@ held s base n bs b = elim (cases_lt n 65536) [
 ]
 
 -- one more digit
-pub next_digit : (is_negative : Bool) (base value digit m byte : ℕ) (tail rest : List ℕ) → rest ≡ byte ∷ tail → digit ≡ digit_value byte → digit < base → m ≡ min (value * base + digit) 65536 → read_behind base is_negative m tail ≡ read_behind base is_negative value rest
+pub next_digit : (is_negative : Bool) (base value digit m byte : ℕ) (tail rest : List ℕ) → rest ≡ byte ∷ tail → digit ≡ digit_value byte → digit < base →
+    m ≡ min (value * base + digit) 65536 → read_behind base is_negative m tail ≡ read_behind base is_negative value rest
 next_digit s base value digit m byte tail rest e f below g =
     let t : is_digit base byte ≡ true = lt-ltb (digit_value byte) base (subst (λ d. d < base) f below) in
     let h : read_behind base s (value * base + digit_value byte) tail ≡ read_behind base s value (byte ∷ tail) = sym (ap (λ v. elim v [ true ↦ read_behind base s (value * base + digit_value byte) tail | false ↦ NotNumber ]) t) in

@@ -6,9 +6,14 @@ use Rattle.std.proofs.lemmas.List.Folds.{list_all-append}
 use Rattle.forth_reader.specs.declared.refusal.ReadCause.TheVariants as cause
 use Rattle.forth_reader.specs.Bytes.{is_graphic, is_blank, is_source_byte, is_string_byte, passing_front, behind_front, graphic_front, behind_graphic}
 use Rattle.forth_reader.specs.Reading.{Reading, NoMore, Reads, Refuses, Unquoted, ends_token, may_follow_token, whole_token, name_from, next_from, parenthesis_from, line_from, ended_by, string_from}
-use Rattle.forth_reader.specs.Splitting.{is_parenthesis_byte, is_line_byte, is_separator, IsCommentText, IsStringText, Blank, Parenthesis, Line, IsRun, RunIs, is_read, is_too_long, meets_bad_byte, NameAt, NextAt, nothing, last_line, bad_byte, bad_in_line, bad_in_parenthesis, open_parenthesis, run, NameIs, NextIs, StringIs, closed, no_separator, line_feed_first, bad_separator, text_ends, line_ends, bad_in_string}
+use Rattle.forth_reader.specs.Splitting.{is_parenthesis_byte, is_line_byte, is_separator, IsCommentText, IsStringText, Blank, Parenthesis, Line, IsRun, RunIs}
+use Rattle.forth_reader.specs.Splitting.{is_read, is_too_long, meets_bad_byte, NameAt, NextAt, nothing, last_line, bad_byte, bad_in_line, bad_in_parenthesis}
+use Rattle.forth_reader.specs.Splitting.{open_parenthesis, run, NameIs, NextIs, StringIs, closed, no_separator, line_feed_first, bad_separator, text_ends}
+use Rattle.forth_reader.specs.Splitting.{line_ends, bad_in_string}
 use Rattle.forth_reader.proofs.Fronts.{front_joined}
-use Rattle.forth_reader.proofs.Steps.{either, both_true, neither_is_bad, source_is_either, next_blank, next_bad, next_parenthesis, next_line, next_run, name_blank, name_bad, name_run, parenthesis_more, parenthesis_bad, parenthesis_source, line_more, line_bad, line_source, front_passes, behind_fails, string_begins, string_bad_separator, ended_bad}
+use Rattle.forth_reader.proofs.Steps.{either, both_true, neither_is_bad, source_is_either, next_blank, next_bad, next_parenthesis, next_line, next_run}
+use Rattle.forth_reader.proofs.Steps.{name_blank, name_bad, name_run, parenthesis_more, parenthesis_bad, parenthesis_source, line_more, line_bad, line_source}
+use Rattle.forth_reader.proofs.Steps.{front_passes, behind_fails, string_begins, string_bad_separator, ended_bad}
 use Rattle.forth_reader.proofs.SplittingToReading.{ends_not_graphic, equal_when}
 
 long_run : (n : ℕ) → nat_le n 31 ≡ false → 31 < n
@@ -21,7 +26,12 @@ followed_run : (number : ℕ) (token rest : List ℕ) (t : Bool) → nat_le (len
 followed_run number token rest true e f = is_read rest f (short_run (length token) e)
 followed_run number token rest false e f = is_too_long rest f (long_run (length token) e)
 
-run_before : (number : ℕ) (token : List ℕ) (c : ℕ) (cs : List ℕ) (t : Bool) → is_blank c ≡ t → is_graphic c ≡ false → RunIs number token (c ∷ cs) (elim t [ true ↦ elim (nat_le (length token) 31) [ true ↦ Reads token number (c ∷ cs) | false ↦ Refuses number cause.NameTooLong ] | false ↦ Refuses number cause.NotText ])
+run_before : (number : ℕ) (token : List ℕ) (c : ℕ) (cs : List ℕ) (t : Bool) → is_blank c ≡ t → is_graphic c ≡ false →
+    RunIs number token (c ∷ cs)
+    (elim t [
+      | true ↦ elim (nat_le (length token) 31) [ true ↦ Reads token number (c ∷ cs) | false ↦ Refuses number cause.NameTooLong ]
+      | false ↦ Refuses number cause.NotText
+    ])
 run_before number token c cs true e g = followed_run number token (c ∷ cs) (nat_le (length token) 31) refl e
 run_before number token c cs false e g = meets_bad_byte c cs (neither_is_bad c g e)
 

@@ -5,8 +5,13 @@ use Rattle.std.proofs.lemmas.Bool.Decides.{nat_tests}
 use Rattle.forth_reader.specs.declared.refusal.ReadCause.TheVariants as cause
 use Rattle.forth_reader.specs.Bytes.{is_graphic, is_blank, is_string_byte, passing_front, behind_front, graphic_front, behind_graphic}
 use Rattle.forth_reader.specs.Reading.{Reading, Reads, Refuses, StringReading, ends_token, may_follow_token, whole_token, name_from, next_from, parenthesis_from, line_from, ended_by, string_from}
-use Rattle.forth_reader.specs.Splitting.{IsStringText, Piece, Blank, Parenthesis, Line, ArePieces, pieces_then, tokens_behind, IsRun, RunIs, is_read, is_too_long, meets_bad_byte, NameAt, NextAt, nothing, last_line, bad_byte, bad_in_line, bad_in_parenthesis, open_parenthesis, run, NameIs, NextIs, StringIs, closed, no_separator, line_feed_first, bad_separator, text_ends, line_ends, bad_in_string}
-use Rattle.forth_reader.proofs.Steps.{either, both_true, bad_not_blank, follow_ends, bad_ends, next_blank, next_bad, next_parenthesis, next_line, next_run, name_blank, name_bad, name_run, parenthesis_bad, parenthesis_along, line_bad, line_along, front_along, behind_along, string_begins, bad_string_byte, string_bad_separator, ended_bad}
+use Rattle.forth_reader.specs.Splitting.{IsStringText, Piece, Blank, Parenthesis, Line, ArePieces, pieces_then, tokens_behind, IsRun, RunIs, is_read}
+use Rattle.forth_reader.specs.Splitting.{is_too_long, meets_bad_byte, NameAt, NextAt, nothing, last_line, bad_byte, bad_in_line, bad_in_parenthesis}
+use Rattle.forth_reader.specs.Splitting.{open_parenthesis, run, NameIs, NextIs, StringIs, closed, no_separator, line_feed_first, bad_separator, text_ends}
+use Rattle.forth_reader.specs.Splitting.{line_ends, bad_in_string}
+use Rattle.forth_reader.proofs.Steps.{either, both_true, bad_not_blank, follow_ends, bad_ends, next_blank, next_bad, next_parenthesis, next_line, next_run}
+use Rattle.forth_reader.proofs.Steps.{name_blank, name_bad, name_run, parenthesis_bad, parenthesis_along, line_bad, line_along, front_along, behind_along}
+use Rattle.forth_reader.proofs.Steps.{string_begins, bad_string_byte, string_bad_separator, ended_bad}
 
 -- a text that begins with a blank ends a token
 pub ends_before : (text rest : List ℕ) → may_follow_token text ≡ true → ends_token rest ≡ true → ends_token (text ++ rest) ≡ true
@@ -96,7 +101,9 @@ next_stands k nothing = refl
 next_stands k (last_line text is) = next_line k text (follow_ends text (is.begins)) ∙ ap (line_from (k + 1)) (sym (append-nil text)) ∙ line_along (k + 1) text [] (is.bytes)
 next_stands k (bad_byte byte rest bad) = next_bad k byte rest bad
 next_stands k (bad_in_line text byte rest is bad) = next_line k (text ++ byte ∷ rest) (ends_before text (byte ∷ rest) (is.begins) (bad_ends byte rest bad)) ∙ line_along (k + 1) text (byte ∷ rest) (is.bytes) ∙ line_bad (k + 1) byte rest bad
-next_stands k (bad_in_parenthesis text byte rest is bad) = next_parenthesis k (text ++ byte ∷ rest) (ends_before text (byte ∷ rest) (is.begins) (bad_ends byte rest bad)) ∙ parenthesis_along (k + 1) text (byte ∷ rest) (is.bytes) ∙ parenthesis_bad (k + 1) byte rest bad
+next_stands k (bad_in_parenthesis text byte rest is bad) =
+    next_parenthesis k (text ++ byte ∷ rest) (ends_before text (byte ∷ rest) (is.begins) (bad_ends byte rest bad))
+    ∙ parenthesis_along (k + 1) text (byte ∷ rest) (is.bytes) ∙ parenthesis_bad (k + 1) byte rest bad
 next_stands k (open_parenthesis text is) = next_parenthesis k text (follow_ends text (is.begins)) ∙ ap (parenthesis_from (k + 1)) (sym (append-nil text)) ∙ parenthesis_along (k + 1) text [] (is.bytes)
 next_stands k (run token rest reading is p q of_run) = next_of_run k token rest is p q (run_ends of_run) ∙ run_computed of_run
 
@@ -120,7 +127,9 @@ name_computed k text reading is = sym (ap (name_from k) (is.text_is) ∙ blanks_
 -- a string text with a byte behind it that is none of it
 ended : (separator : ℕ) (text : List ℕ) (byte : ℕ) (rest : List ℕ) → IsStringText separator text → is_string_byte byte ≡ false → string_from (separator ∷ (text ++ byte ∷ rest)) ≡ ended_by text (byte ∷ rest)
 ended separator text byte rest is stops =
-    let front : passing_front is_string_byte (text ++ byte ∷ rest) ≡ text = front_along is_string_byte text (byte ∷ rest) (is.bytes) ∙ ap (λ t. text ++ elim t [ true ↦ byte ∷ passing_front is_string_byte rest | false ↦ [] ]) stops ∙ append-nil text in
+    let front : passing_front is_string_byte (text ++ byte ∷ rest) ≡ text =
+    front_along is_string_byte text (byte ∷ rest) (is.bytes)
+    ∙ ap (λ t. text ++ elim t [ true ↦ byte ∷ passing_front is_string_byte rest | false ↦ [] ]) stops ∙ append-nil text in
     let behind : behind_front is_string_byte (text ++ byte ∷ rest) ≡ byte ∷ rest = behind_along is_string_byte text (byte ∷ rest) (is.bytes) ∙ ap (λ t. elim t [ true ↦ behind_front is_string_byte rest | false ↦ byte ∷ rest ]) stops in
     string_begins separator (text ++ byte ∷ rest) (is.separates) ∙ ap (λ l. ended_by l (behind_front is_string_byte (text ++ byte ∷ rest))) front ∙ ap (λ l. ended_by text l) behind
 

@@ -133,7 +133,8 @@ module _ (test : ℕ → Bool) where
   front_passes [] = refl
   front_passes (b ∷ bs) = front_passes_on b bs (test b) refl (front_passes bs)
 
-  behind_fails_on : (b : ℕ) (bs : List ℕ) (t : Bool) → test b ≡ t → ((c : ℕ) (cs : List ℕ) → behind_front test bs ≡ c ∷ cs → test c ≡ false) → (c : ℕ) (cs : List ℕ) → elim t [ true ↦ behind_front test bs | false ↦ b ∷ bs ] ≡ c ∷ cs → test c ≡ false
+  behind_fails_on : (b : ℕ) (bs : List ℕ) (t : Bool) → test b ≡ t → ((c : ℕ) (cs : List ℕ) → behind_front test bs ≡ c ∷ cs → test c ≡ false) →
+      (c : ℕ) (cs : List ℕ) → elim t [ true ↦ behind_front test bs | false ↦ b ∷ bs ] ≡ c ∷ cs → test c ≡ false
   behind_fails_on b bs true e below c cs h = below c cs h
   behind_fails_on b bs false e below c cs h = let same : b ≡ c = cc in subst (λ x. test x ≡ false) same e
 

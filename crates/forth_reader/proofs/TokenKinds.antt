@@ -7,7 +7,8 @@ use Rattle.forth_reader.specs.declared.refusal.ReadCause.TheVariants as cause
 use Rattle.forth_reader.specs.Bytes.{is_source_byte, passing_front, behind_front}
 use Rattle.forth_reader.specs.Reading.{StringReading, Quoted, Unquoted, string_from}
 use Rattle.forth_reader.specs.Splitting.{is_parenthesis_byte, is_line_byte, StringIs}
-use Rattle.forth_reader.specs.TokenList.{Kind, OrdinaryToken, OpensComment, OpensLine, BeforeString, is_byte, is_string_word, kind_of, After, Passes, Fails, Behind, plain, comment, open_comment, bad_in_comment, line, line_at_end, bad_line, string, bad_string}
+use Rattle.forth_reader.specs.TokenList.{Kind, OrdinaryToken, OpensComment, OpensLine, BeforeString, is_byte, is_string_word, kind_of, After, Passes, Fails}
+use Rattle.forth_reader.specs.TokenList.{Behind, plain, comment, open_comment, bad_in_comment, line, line_at_end, bad_line, string, bad_string}
 use Rattle.forth_reader.proofs.Fronts.{front_joined}
 use Rattle.forth_reader.proofs.Steps.{either, front_along, behind_along, front_passes, behind_fails}
 use Rattle.forth_reader.proofs.SplittingToReading.{equal_when, string_computed}

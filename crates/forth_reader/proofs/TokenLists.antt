@@ -3,7 +3,8 @@ use Rattle.std.proofs.Common.{◌≡◌, ℕ, zero, suc, ◌+◌, ◌-◌, ◌<�
 use Rattle.forth_reader.specs.declared.refusal.ReadCause.{ReadCause}
 use Rattle.forth_reader.specs.Reading.{Reading, NoMore, Reads, Refuses, Quoted, name_from}
 use Rattle.forth_reader.specs.Splitting.{RunIs, is_read, NameAt, nothing, run, NameIs, StringIs, closed}
-use Rattle.forth_reader.specs.TokenList.{PlacedToken, TokensEnd, AllRead, Faulty, Kind, kind_of, After, Passes, Fails, Behind, plain, comment, line, line_at_end, string, IsTokenAt, EndIs, all_read, refused, fails_behind, AreTokensFrom, HasTokens, HasNoOtherTokens}
+use Rattle.forth_reader.specs.TokenList.{PlacedToken, TokensEnd, AllRead, Faulty, Kind, kind_of, After, Passes, Fails, Behind, plain, comment, line}
+use Rattle.forth_reader.specs.TokenList.{line_at_end, string, IsTokenAt, EndIs, all_read, refused, fails_behind, AreTokensFrom, HasTokens, HasNoOtherTokens}
 use Rattle.forth_reader.proofs.SplittingToReading.{name_computed}
 use Rattle.forth_reader.proofs.ReadingToSplitting.{name_exists}
 use Rattle.forth_reader.proofs.TokenKinds.{after_of, behind_computed, behind_exists}
@@ -126,7 +127,8 @@ module _ (named : ℕ → Bool) where
   no_end (refused n c is) at = let h = one_reading is at.reads in cc
   no_end (fails_behind s n b c is stands) at = let h = same_behind (one_reading is at.reads) stands at.stands in cc
 
-  tokens_same : (size k : ℕ) (text : List ℕ) (tokens others : List PlacedToken) (end other_end : TokensEnd) → AreTokensFrom named size k text tokens end → AreTokensFrom named size k text others other_end → (tokens ≡ others) × (end ≡ other_end)
+  tokens_same : (size k : ℕ) (text : List ℕ) (tokens others : List PlacedToken) (end other_end : TokensEnd) → AreTokensFrom named size k text tokens end →
+      AreTokensFrom named size k text others other_end → (tokens ≡ others) × (end ≡ other_end)
   tokens_same size k text [] [] end other_end is other = (refl, one_end is other)
   tokens_same size k text [] (u ∷ others) end other_end is other = absurd (no_end is (other.1.0))
   tokens_same size k text (t ∷ tokens) [] end other_end is other = absurd (no_end other (is.1.0))
@@ -137,7 +139,9 @@ module _ (named : ℕ → Bool) where
       let same : (t.token ≡ u.token) × (t.number ≡ u.number) × (a.behind ≡ b.behind) = same_parts e in
       let after : (t.skipped ≡ u.skipped) × (t.string ≡ u.string) × (is.0 ≡ other.0) = same_after (same_behind e a.stands b.stands) in
       let starts : t.start ≡ u.start = omega (arith, a.starts, b.starts, ap length (same.0), ap length (same.2)) in
-      let others_are : AreTokensFrom named size (t.number) (is.0) others other_end = subst (λ n. AreTokensFrom named size n (is.0) others other_end) (sym (same.1)) (subst (λ l. AreTokensFrom named size (u.number) l others other_end) (sym (after.2)) (other.1.1)) in
+      let others_are : AreTokensFrom named size (t.number) (is.0) others other_end =
+      subst (λ n. AreTokensFrom named size n (is.0) others other_end) (sym (same.1))
+      (subst (λ l. AreTokensFrom named size (u.number) l others other_end) (sym (after.2)) (other.1.1)) in
       let more : (tokens ≡ others) × (end ≡ other_end) = tokens_same size (t.number) (is.0) tokens others end other_end (is.1.1) others_are in
       (ap (λ x. x ∷ tokens) (same_token t u (same.0) starts (same.1) (after.0) (after.1)) ∙ ap (λ l. u ∷ l) (more.0), more.1)
 

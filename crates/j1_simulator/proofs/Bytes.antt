@@ -22,7 +22,8 @@ laid_out image a b c d m ea room em eb ec ed =
     let nb : length b ≡ half = ap length b' ∙ simp (length-append, length-replicate) (omega arith) in
     let nc : length c ≡ half + length (cells_of_bytes image.bytes) = ap length ec ∙ simp length-append (omega arith) in
     let n : 0x2000 - length c ≡ 0x2000 - half - length (cells_of_bytes image.bytes) = omega arith in
-    let e : d ≡ (b ++ cells_of_bytes image.bytes) ++ replicate (0x2000 - half - length (cells_of_bytes image.bytes)) 0 = ed ∙ ap (λ k. c ++ replicate k 0) n ∙ ap (λ x. x ++ replicate (0x2000 - half - length (cells_of_bytes image.bytes)) 0) ec in
+    let e : d ≡ (b ++ cells_of_bytes image.bytes) ++ replicate (0x2000 - half - length (cells_of_bytes image.bytes)) 0 =
+    ed ∙ ap (λ k. c ++ replicate k 0) n ∙ ap (λ x. x ++ replicate (0x2000 - half - length (cells_of_bytes image.bytes)) 0) ec in
     let f : d ≡ b ++ (cells_of_bytes image.bytes ++ replicate (0x2000 - half - length (cells_of_bytes image.bytes)) 0) = e ∙ append_assoc b (cells_of_bytes image.bytes) _ in
     let s : memory_of image ≡ filled half a ++ filled (0x2000 - half) (cells_of_bytes image.bytes) = ap (λ x. filled half x ++ filled (0x2000 - half) (cells_of_bytes image.bytes)) (sym ea) in
     f ∙ ap (λ x. x ++ filled (0x2000 - half) (cells_of_bytes image.bytes)) b' ∙ sym s

@@ -11,7 +11,14 @@ use Rattle.j1_simulator.specs.Run.{round_run, open_run}
 -- T+N, d-1, on any open stack whose two topmost cells are known
 adds : (pc x y : ℕ) (data_start : ℕ) (below above : List (Option ℕ)) (at : ℤ) (back : Tape) (memory : List ℕ) →
     applied open_storage data_start (effect pc (decoded 0x6203)) (record { pc = pc; t = Some x; data_stack = record { below = Some y ∷ below; above = above; at = at }; return_stack = back; memory = memory })
-    ≡ Advances (record { pc = (pc + 1) % 0x2000; t = Some ((x + y) % 0x10000); data_stack = record { below = below; above = Some y ∷ above; at = at +ℤ negsuc 0 }; return_stack = record back { at = back.at +ℤ pos 0 }; memory = memory }) Silent
+    ≡ Advances
+    (record {
+      pc = (pc + 1) % 0x2000;
+      t = Some ((x + y) % 0x10000);
+      data_stack = record { below = below; above = Some y ∷ above; at = at +ℤ negsuc 0 };
+      return_stack = record back { at = back.at +ℤ pos 0 };
+      memory = memory;
+    }) Silent
 adds pc x y data_start below above at back memory = refl
 
 hi : Content

@@ -24,7 +24,8 @@ use Rattle.j1_simulator.proofs.Questions.{vain, vain_grows, vain_in, read_failed
 use Rattle.j1_simulator.proofs.Unwritten.{Unwritten, unwritten_first, unwritten_on, lacks_flush, lacks_full}
 
 -- what is left of the input is known before and after an instruction that takes nothing given by hand
-pub left_kept : (hand : Option (Option ℕ)) (k j : ℕ) (taken : Option (Option ℕ)) (left after : Option (List ℕ)) → None ≡ given_after k hand → k ≤ j → (hand ≡ Some None → taken ≡ None) → LeftAfter taken left after → LeftAfter taken (left_of hand k left) (left_of hand j after)
+pub left_kept : (hand : Option (Option ℕ)) (k j : ℕ) (taken : Option (Option ℕ)) (left after : Option (List ℕ)) → None ≡ given_after k hand → k ≤ j →
+    (hand ≡ Some None → taken ≡ None) → LeftAfter taken left after → LeftAfter taken (left_of hand k left) (left_of hand j after)
 left_kept None k j taken left after g le n l = l
 left_kept (Some None) k j taken left after g le n l = subst (λ t. LeftAfter t (Some []) (Some [])) (sym (n refl)) refl
 left_kept (Some (Some byte)) zero j taken left after g le n l = cc
@@ -36,7 +37,8 @@ first_taken byte None = tt
 first_taken byte (Some input) = (refl, refl)
 
 -- and by the one that takes it
-left_used : (hand : Option (Option ℕ)) (k : ℕ) (byte : Option ℕ) (taken : Option (Option ℕ)) (left after : Option (List ℕ)) → Some byte ≡ given_after k hand → taken ≡ Some byte → after ≡ left → LeftAfter taken (left_of hand k left) (left_of hand (suc k) after)
+left_used : (hand : Option (Option ℕ)) (k : ℕ) (byte : Option ℕ) (taken : Option (Option ℕ)) (left after : Option (List ℕ)) → Some byte ≡ given_after k hand →
+    taken ≡ Some byte → after ≡ left → LeftAfter taken (left_of hand k left) (left_of hand (suc k) after)
 left_used None zero byte taken left after g t l = cc
 left_used (Some None) zero byte taken left after g t l =
     let none : Some None ≡ taken = cc in
@@ -46,7 +48,8 @@ left_used (Some (Some first)) zero byte taken left after g t l =
     subst (λ t. LeftAfter t (option_map (λ bytes. first ∷ bytes) left) after) same (subst (λ after. LeftAfter (Some (Some first)) (option_map (λ bytes. first ∷ bytes) left) after) (sym l) (first_taken first left))
 left_used hand (suc k) byte taken left after g t l = cc
 
-left_stepped : (given hand : Option (Option ℕ)) (k : ℕ) (taken : Option (Option ℕ)) (left after : Option (List ℕ)) → given ≡ given_after k hand → (hand ≡ Some None → given ≡ None → taken ≡ None) → ComesFrom given taken left after → LeftAfter taken (left_of hand k left) (left_of hand (suc k) after)
+left_stepped : (given hand : Option (Option ℕ)) (k : ℕ) (taken : Option (Option ℕ)) (left after : Option (List ℕ)) → given ≡ given_after k hand →
+    (hand ≡ Some None → given ≡ None → taken ≡ None) → ComesFrom given taken left after → LeftAfter taken (left_of hand k left) (left_of hand (suc k) after)
 left_stepped None hand k taken left after g n l = left_kept hand k (suc k) taken left after g (omega arith) (λ h. n h refl) l
 left_stepped (Some byte) hand k taken left after g n l = left_used hand k byte taken left after g l.0 l.1
 
@@ -104,7 +107,9 @@ begins first told before calls =
     }
 
 -- a machine that was told by hand that there is no byte asks for none
-none_asked : (taken : Option (Option ℕ)) (old : MachineState) (k : ℕ) (hand : Option (Option ℕ)) → old.given ≡ given_after k hand → (k ≡ 0) ⊎ (old.ended ≡ Some InputEnded) → ((byte : Option ℕ) → taken ≡ Some byte → WantsAByte (record old { given = None })) → hand ≡ Some None → old.given ≡ None → taken ≡ None
+none_asked : (taken : Option (Option ℕ)) (old : MachineState) (k : ℕ) (hand : Option (Option ℕ)) → old.given ≡ given_after k hand →
+    (k ≡ 0) ⊎ (old.ended ≡ Some InputEnded) → ((byte : Option ℕ) → taken ≡ Some byte → WantsAByte (record old { given = None })) → hand ≡ Some None →
+    old.given ≡ None → taken ≡ None
 none_asked None old k hand g b w h n = refl
 none_asked (Some byte) old k hand g b w h n =
     ⊎_elim (λ e. let s : given_after k hand ≡ Some None = ap (λ k. given_after k hand) e ∙ h in cc) (λ e. let r : old.ended ≡ None = (w byte refl).running in cc) b
@@ -112,12 +117,19 @@ none_asked (Some byte) old k hand g b w h n =
 -- an instruction of a turn
 abbrev pub Runs : Result (Option End) DriveError → MachineState → MachineState → Option (Option ℕ) → Option (List ℕ) → Option (List ℕ) → Option (List ℕ) → List ℕ → List ℕ → Type 0
 Runs result old new taken before now later buffer waiting =
-    (configuration : Configuration ℕ RingCells) (fits : Bool) (data_start : ℕ) (left after : Option (List ℕ)) → LeftAfter taken left after → IsAt configuration fits old data_start left before now buffer → TurnEnds result taken old buffer configuration fits new data_start after before later waiting
+    (configuration : Configuration ℕ RingCells) (fits : Bool) (data_start : ℕ) (left after : Option (List ℕ)) → LeftAfter taken left after →
+    IsAt configuration fits old data_start left before now buffer →
+    TurnEnds result taken old buffer configuration fits new data_start after before later waiting
 
-turn_runs : {result : Result (Option End) DriveError} {old new : MachineState} {left after now later : Option (List ℕ)} {buffer waiting : List ℕ} {calls calls' : ℕ} (t : Turns result old new left after now later buffer waiting calls calls') (before : Option (List ℕ)) → Runs result old new t.taken before now later buffer waiting
+turn_runs : {result : Result (Option End) DriveError} {old new : MachineState} {left after now later : Option (List ℕ)} {buffer waiting : List ℕ}
+    {calls calls' : ℕ} (t : Turns result old new left after now later buffer waiting calls calls') (before : Option (List ℕ)) →
+    Runs result old new t.taken before now later buffer waiting
 turn_runs t before = λ configuration fits data_start input rest. t.ends configuration fits data_start before input rest
 
-driven_on : (first : MachineState) (k : ℕ) (bytes : List ℕ) (end : Option End) (old new : MachineState) (taken : Option (Option ℕ)) (left after before now later : Option (List ℕ)) (buffer waiting : List ℕ) → LeftAfter taken (left_of first.given k left) (left_of first.given (suc k) after) → Runs (Ok end) old new taken before now later buffer waiting → MayWait old buffer → Progress first k bytes old left before now buffer → Progress first (suc k) bytes new after before later waiting
+driven_on : (first : MachineState) (k : ℕ) (bytes : List ℕ) (end : Option End) (old new : MachineState) (taken : Option (Option ℕ))
+    (left after before now later : Option (List ℕ)) (buffer waiting : List ℕ) →
+    LeftAfter taken (left_of first.given k left) (left_of first.given (suc k) after) → Runs (Ok end) old new taken before now later buffer waiting →
+    MayWait old buffer → Progress first k bytes old left before now buffer → Progress first (suc k) bytes new after before later waiting
 driven_on first k bytes end old new taken left after before now later buffer waiting l runs m a =
     let w = driven first k (input_for first.given bytes) in
     let fits = driven_fits first k (input_for first.given bytes) in
@@ -127,11 +139,18 @@ driven_on first k bytes end old new taken left after before now later buffer wai
       unwritten_on first k (input_for first.given bytes) buffer waiting a.1 (r.1 m).0,
     )
 
-waits_on : (first : MachineState) (k : ℕ) (bytes : List ℕ) (end : Option End) (old new : MachineState) (taken : Option (Option ℕ)) (left after before now later : Option (List ℕ)) (buffer waiting : List ℕ) → LeftAfter taken (left_of first.given k left) (left_of first.given (suc k) after) → Runs (Ok end) old new taken before now later buffer waiting → MayWait old buffer → Progress first k bytes old left before now buffer → MayWait new waiting
+waits_on : (first : MachineState) (k : ℕ) (bytes : List ℕ) (end : Option End) (old new : MachineState) (taken : Option (Option ℕ))
+    (left after before now later : Option (List ℕ)) (buffer waiting : List ℕ) →
+    LeftAfter taken (left_of first.given k left) (left_of first.given (suc k) after) → Runs (Ok end) old new taken before now later buffer waiting →
+    MayWait old buffer → Progress first k bytes old left before now buffer → MayWait new waiting
 waits_on first k bytes end old new taken left after before now later buffer waiting l runs m a =
     ((runs (driven first k (input_for first.given bytes)) (driven_fits first k (input_for first.given bytes)) first.data_start _ _ l a.0).1 m).1
 
-told_on : (told : Option (List ℕ)) (first : MachineState) (k : ℕ) (end : Option End) (old new : MachineState) (taken : Option (Option ℕ)) (left after before now later : Option (List ℕ)) (buffer waiting : List ℕ) → LeftAfter taken (left_of first.given k left) (left_of first.given (suc k) after) → Runs (Ok end) old new taken before now later buffer waiting → MayWait old buffer → IfSome told (λ bytes. Progress first k bytes old left before now buffer) → IfSome told (λ bytes. Progress first (suc k) bytes new after before later waiting)
+told_on : (told : Option (List ℕ)) (first : MachineState) (k : ℕ) (end : Option End) (old new : MachineState) (taken : Option (Option ℕ))
+    (left after before now later : Option (List ℕ)) (buffer waiting : List ℕ) →
+    LeftAfter taken (left_of first.given k left) (left_of first.given (suc k) after) → Runs (Ok end) old new taken before now later buffer waiting →
+    MayWait old buffer → IfSome told (λ bytes. Progress first k bytes old left before now buffer) →
+    IfSome told (λ bytes. Progress first (suc k) bytes new after before later waiting)
 told_on None first k end old new taken left after before now later buffer waiting l runs m a = tt
 told_on (Some bytes) first k end old new taken left after before now later buffer waiting l runs m a = driven_on first k bytes end old new taken left after before now later buffer waiting l runs m a
 
@@ -141,13 +160,17 @@ Before first k bytes old taken after before now buffer =
     (left : Option (List ℕ)) × LeftAfter taken (left_of first.given k left) (left_of first.given (suc k) after) × Progress first k bytes old left before now buffer
 
 -- the bytes that the console has given by the end of a turn, how often it was asked, and the moment before the instruction
-pub record Taking (r : Result (Option End) DriveError) (taken : Option (Option ℕ)) (first old new : MachineState) (told : Option (List ℕ)) (k : ℕ) (after before now : Option (List ℕ)) (buffer : List ℕ) (calls_before calls_now : ℕ) : Type 0 where
+pub record Taking (r : Result (Option End) DriveError) (taken : Option (Option ℕ)) (first old new : MachineState) (told : Option (List ℕ)) (k : ℕ)
+    (after before now : Option (List ℕ)) (buffer : List ℕ) (calls_before calls_now : ℕ) : Type 0 where
   pub bytes : List ℕ
   pub took : Consumes told after bytes
   pub calls : calls_now ≤ calls_before + length bytes + vain new.ended + read_failed r
   pub on : (rest : List ℕ) → (new.ended ≡ Some InputEnded → rest ≡ []) → Before first k (bytes ++ rest) old taken (Some rest) before now buffer
 
-before_by : (given taken : Option (Option ℕ)) (r : Result (Option End) DriveError) (first old new : MachineState) (told : Option (List ℕ)) (k : ℕ) (left after before now : Option (List ℕ)) (buffer : List ℕ) (calls_before calls calls_now : ℕ) → old.given ≡ given → Underway first told k old left before now buffer calls_before calls → IsTaken old new taken left after → KeepsEnd old new → calls_now ≤ calls + asks r given taken → Taking r taken first old new told k after before now buffer calls_before calls_now
+before_by : (given taken : Option (Option ℕ)) (r : Result (Option End) DriveError) (first old new : MachineState) (told : Option (List ℕ)) (k : ℕ)
+    (left after before now : Option (List ℕ)) (buffer : List ℕ) (calls_before calls calls_now : ℕ) → old.given ≡ given →
+    Underway first told k old left before now buffer calls_before calls → IsTaken old new taken left after → KeepsEnd old new →
+    calls_now ≤ calls + asks r given taken → Taking r taken first old new told k after before now buffer calls_before calls_now
 before_by (Some byte) taken r first old new told k left after before now buffer calls_before calls calls_now g u t over c =
     let from : ComesFrom (Some byte) taken left after = subst (λ g. ComesFrom g taken left after) g t.from in
     let few = asks_at_most r (Some byte) taken in
@@ -192,20 +215,31 @@ before_by None (Some (Some byte)) r first old new told k left after before now b
       took = took_byte told left after u.bytes byte from u.took;
       calls = omega (arith, u.calls, few, running, one_more, c);
       on = λ rest ended.
-          subst (λ bytes. Before first k bytes old (Some (Some byte)) (Some rest) before now buffer) (sym (append_assoc u.bytes (byte ∷ []) rest))
-          (Some (byte ∷ rest), left_stepped None first.given k (Some (Some byte)) (Some (byte ∷ rest)) (Some rest) (sym g ∙ u.given) (λ h n. none_asked (Some (Some byte)) old k first.given u.given (u.by_hand h) t.wanted h g) (refl, refl), u.on (byte ∷ rest) (λ e. let r : old.ended ≡ None = (t.wanted (Some byte) refl).running in cc));
+          subst (λ bytes. Before first k bytes old (Some (Some byte)) (Some rest) before now buffer) (sym (append_assoc u.bytes (byte ∷ []) rest)) (
+            Some (byte ∷ rest),
+            left_stepped None first.given k (Some (Some byte)) (Some (byte ∷ rest)) (Some rest) (sym g ∙ u.given)
+                (λ h n. none_asked (Some (Some byte)) old k first.given u.given (u.by_hand h) t.wanted h g) (refl, refl),
+            u.on (byte ∷ rest) (λ e. let r : old.ended ≡ None = (t.wanted (Some byte) refl).running in cc),
+          );
     }
 
-before_it : {r : Result (Option End) DriveError} {first old new : MachineState} {told : Option (List ℕ)} {k : ℕ} {left after before now later : Option (List ℕ)} {buffer waiting : List ℕ} {calls_before calls calls_now : ℕ} → Underway first told k old left before now buffer calls_before calls → (t : Turns r old new left after now later buffer waiting calls calls_now) → KeepsEnd old new → Taking r t.taken first old new told k after before now buffer calls_before calls_now
+before_it : {r : Result (Option End) DriveError} {first old new : MachineState} {told : Option (List ℕ)} {k : ℕ} {left after before now later : Option (List ℕ)}
+    {buffer waiting : List ℕ} {calls_before calls calls_now : ℕ} → Underway first told k old left before now buffer calls_before calls →
+    (t : Turns r old new left after now later buffer waiting calls calls_now) → KeepsEnd old new →
+    Taking r t.taken first old new told k after before now buffer calls_before calls_now
 before_it {r} {first} {old} {new} {told} {k} {left} {after} {before} {now} {later} {buffer} {waiting} {calls_before} {calls} {calls_now} u t over =
     before_by old.given t.taken r first old new told k left after before now buffer calls_before calls calls_now refl u t.takes over t.calls
 
 -- the console's bytes before and after an instruction
-told_left : (taken : Option (Option ℕ)) (first old new : MachineState) (told : Option (List ℕ)) (k : ℕ) (left after before now : Option (List ℕ)) (buffer : List ℕ) (calls_before calls : ℕ) → Underway first told k old left before now buffer calls_before calls → IsTaken old new taken left after → LeftAfter taken (left_of first.given k left) (left_of first.given (suc k) after)
+told_left : (taken : Option (Option ℕ)) (first old new : MachineState) (told : Option (List ℕ)) (k : ℕ) (left after before now : Option (List ℕ))
+    (buffer : List ℕ) (calls_before calls : ℕ) → Underway first told k old left before now buffer calls_before calls → IsTaken old new taken left after →
+    LeftAfter taken (left_of first.given k left) (left_of first.given (suc k) after)
 told_left taken first old new told k left after before now buffer calls_before calls u t =
     left_stepped old.given first.given k taken left after u.given (λ h n. none_asked taken old k first.given u.given (u.by_hand h) t.wanted h n) t.from
 
-ends_by_hand : (taken : Option (Option ℕ)) (given : Option (Option ℕ)) (old new : MachineState) (k : ℕ) (left after : Option (List ℕ)) → old.given ≡ given_after k given → IsTaken old new taken left after → KeepsEnd old new → given ≡ Some None → (k ≡ 0) ⊎ (old.ended ≡ Some InputEnded) → new.ended ≡ Some InputEnded
+ends_by_hand : (taken : Option (Option ℕ)) (given : Option (Option ℕ)) (old new : MachineState) (k : ℕ) (left after : Option (List ℕ)) →
+    old.given ≡ given_after k given → IsTaken old new taken left after → KeepsEnd old new → given ≡ Some None → (k ≡ 0) ⊎ (old.ended ≡ Some InputEnded) →
+    new.ended ≡ Some InputEnded
 ends_by_hand taken given old new k left after g t over h b =
     ⊎_elim (λ e.
     let s : old.given ≡ Some None = g ∙ ap (λ k. given_after k given) e ∙ h in
@@ -213,7 +247,10 @@ ends_by_hand taken given old new k left after g t over h b =
     t.none_left from.0) (λ e. over InputEnded e) b
 
 -- after one more instruction
-pub drives_on : {end : Option End} {first old new : MachineState} {told : Option (List ℕ)} {k : ℕ} {left after before now later : Option (List ℕ)} {buffer waiting : List ℕ} {calls_before calls calls_now : ℕ} → Underway first told k old left before now buffer calls_before calls → Turns (Ok end) old new left after now later buffer waiting calls calls_now → KeepsEnd old new → new.given ≡ None → Underway first told (k + 1) new after before later waiting calls_before calls_now
+pub drives_on : {end : Option End} {first old new : MachineState} {told : Option (List ℕ)} {k : ℕ} {left after before now later : Option (List ℕ)}
+    {buffer waiting : List ℕ} {calls_before calls calls_now : ℕ} → Underway first told k old left before now buffer calls_before calls →
+    Turns (Ok end) old new left after now later buffer waiting calls calls_now → KeepsEnd old new → new.given ≡ None →
+    Underway first told (k + 1) new after before later waiting calls_before calls_now
 drives_on {end} {first} {old} {new} {told} {k} {left} {after} {before} {now} {later} {buffer} {waiting} {calls_before} {calls} {calls_now} u t over g =
     let b = before_it u t over in
     let runs = turn_runs t before in
@@ -240,7 +277,9 @@ told_when None When P h = tt
 told_when (Some bytes) When P h = h
 
 -- the moment after all that was printed has been written out
-pub flushed_here : {first machine : MachineState} {told : Option (List ℕ)} {k : ℕ} {left before now : Option (List ℕ)} {buffer : List ℕ} {calls_before calls : ℕ} (later : Option (List ℕ)) → Underway first told k machine left before now buffer calls_before calls → Appends now later buffer → IfSome told (λ bytes. IsDriven first k bytes machine left before later [])
+pub flushed_here : {first machine : MachineState} {told : Option (List ℕ)} {k : ℕ} {left before now : Option (List ℕ)} {buffer : List ℕ}
+    {calls_before calls : ℕ} (later : Option (List ℕ)) → Underway first told k machine left before now buffer calls_before calls → Appends now later buffer →
+    IfSome told (λ bytes. IsDriven first k bytes machine left before later [])
 flushed_here {first} {machine} {told} {k} {left} {before} {now} {buffer} {calls_before} {calls} later u bytes =
     told_map told (λ bytes. Progress first k bytes machine left before now buffer) (λ bytes. IsDriven first k bytes machine left before later [])
     (λ input a. flushed (driven first k (input_for first.given input)) _ machine machine first.data_start _ before now later buffer a.0 refl bytes) u.here
@@ -251,7 +290,8 @@ left_later (Some None) k n left le = refl
 left_later (Some (Some byte)) k zero left le = absurd (omega arith)
 left_later (Some (Some byte)) k (suc n) left le = refl
 
-ended_on : (first : MachineState) (k n : ℕ) (machine : MachineState) (end : End) (bytes : List ℕ) (left before now : Option (List ℕ)) (buffer : List ℕ) → suc k ≤ n → machine.ended ≡ Some end → IsDriven first (suc k) bytes machine left before now buffer → IsDriven first n bytes machine left before now buffer
+ended_on : (first : MachineState) (k n : ℕ) (machine : MachineState) (end : End) (bytes : List ℕ) (left before now : Option (List ℕ)) (buffer : List ℕ) →
+    suc k ≤ n → machine.ended ≡ Some end → IsDriven first (suc k) bytes machine left before now buffer → IsDriven first n bytes machine left before now buffer
 ended_on first k n machine end bytes left before now buffer le e a =
     let input = input_for first.given bytes in
     let stop : (driven first (suc k) input).stop ≡ Some (By end) = sym a.stands.ended ∙ ap (option_map By) e in
@@ -261,7 +301,10 @@ ended_on first k n machine end bytes left before now buffer le e a =
     (subst (λ x. IsAt x (driven_fits first n input) machine first.data_start (left_of first.given (suc k) left) before now buffer) (sym same) there)
 
 -- the moment after a run has ended, which stays the same
-pub ended_here : {first machine : MachineState} {told : Option (List ℕ)} {left before now : Option (List ℕ)} {buffer : List ℕ} {calls_before calls : ℕ} (later : Option (List ℕ)) (k : ℕ) (n : ℕ) (end : End) → k + 1 ≤ n → machine.ended ≡ Some end → Underway first told (k + 1) machine left before now buffer calls_before calls → Appends now later buffer → IfSome told (λ bytes. IsDriven first n bytes machine left before later [])
+pub ended_here : {first machine : MachineState} {told : Option (List ℕ)} {left before now : Option (List ℕ)} {buffer : List ℕ} {calls_before calls : ℕ}
+    (later : Option (List ℕ)) (k : ℕ) (n : ℕ) (end : End) → k + 1 ≤ n → machine.ended ≡ Some end →
+    Underway first told (k + 1) machine left before now buffer calls_before calls → Appends now later buffer →
+    IfSome told (λ bytes. IsDriven first n bytes machine left before later [])
 ended_here {first} {machine} {told} {left} {before} {now} {buffer} {calls_before} {calls} later k n end le e u bytes =
     told_map told (λ bytes. IsDriven first (k + 1) bytes machine left before later []) (λ bytes. IsDriven first n bytes machine left before later [])
     (λ bytes a. ended_on first k n machine end bytes left before later [] (omega arith) e (subst (λ k. IsDriven first k bytes machine left before later []) (add-one k) a)) (flushed_here later u bytes)
@@ -271,7 +314,10 @@ abbrev pub IsLast : MachineState → ℕ → ℕ → Type 0
 IsLast machine k n = ((end : End) × (machine.ended ≡ Some end)) ⊎ (k ≡ n)
 
 -- the moment after a failed flush
-pub front_here : {first machine : MachineState} {told : Option (List ℕ)} {k : ℕ} {left before now : Option (List ℕ)} {buffer : List ℕ} {calls_before calls : ℕ} (later : Option (List ℕ)) (n : ℕ) → k ≤ n → length buffer < 512 → IsLast machine k n → Underway first told k machine left before now buffer calls_before calls → AppendsFront now later buffer → IfSome told (λ bytes. IsBrokenOff n first bytes machine left before later)
+pub front_here : {first machine : MachineState} {told : Option (List ℕ)} {k : ℕ} {left before now : Option (List ℕ)} {buffer : List ℕ} {calls_before calls : ℕ}
+    (later : Option (List ℕ)) (n : ℕ) → k ≤ n → length buffer < 512 → IsLast machine k n →
+    Underway first told k machine left before now buffer calls_before calls → AppendsFront now later buffer →
+    IfSome told (λ bytes. IsBrokenOff n first bytes machine left before later)
 front_here {first} {machine} {told} {k} {left} {before} {now} {buffer} {calls_before} {calls} later n le room last u bytes =
     told_map told (λ bytes. Progress first k bytes machine left before now buffer) (λ bytes. IsBrokenOff n first bytes machine left before later)
     (λ input a. record {
@@ -288,7 +334,10 @@ holds_all (Some old) None printed h = absurd h
 holds_all (Some old) (Some new) printed h = (h.0, h.1, ([], h.2))
 
 -- at most n instructions, with all written out
-pub made_all : {first machine : MachineState} {told : Option (List ℕ)} {k : ℕ} {left before now later : Option (List ℕ)} {buffer : List ℕ} {calls_before calls : ℕ} (n : ℕ) (result : Result Finish DriveError) → k ≤ n → (result ≡ Ok StepsUsed → k ≡ n) → (result ≡ Err Read → ⊥) → (result ≡ Err Write → ⊥) → Underway first told k machine left before now buffer calls_before calls → Appends now later buffer → MadeAtMost n result first machine told left before later calls_before calls
+pub made_all : {first machine : MachineState} {told : Option (List ℕ)} {k : ℕ} {left before now later : Option (List ℕ)} {buffer : List ℕ}
+    {calls_before calls : ℕ} (n : ℕ) (result : Result Finish DriveError) → k ≤ n → (result ≡ Ok StepsUsed → k ≡ n) → (result ≡ Err Read → ⊥) →
+    (result ≡ Err Write → ⊥) → Underway first told k machine left before now buffer calls_before calls → Appends now later buffer →
+    MadeAtMost n result first machine told left before later calls_before calls
 made_all {first} {machine} {told} {k} {left} {before} {now} {later} {buffer} {calls_before} {calls} n result le all read write u bytes =
     let a = u.on [] (λ e. refl) in
     let h : HoldsPrints before later [] (driven first k (input_for first.given (u.bytes ++ []))).printed = holds_flushed before now later buffer _ a.0.out bytes in
@@ -310,7 +359,10 @@ made_all {first} {machine} {told} {k} {left} {before} {now} {later} {buffer} {ca
     }
 
 -- and where the last flush failed
-pub made_front : {first machine : MachineState} {told : Option (List ℕ)} {k : ℕ} {left before now later : Option (List ℕ)} {buffer : List ℕ} {calls_before calls : ℕ} (n : ℕ) (result : Result Finish DriveError) → k ≤ n → length buffer < 512 → IsLast machine k n → result ≡ Err Write → Underway first told k machine left before now buffer calls_before calls → AppendsFront now later buffer → MadeAtMost n result first machine told left before later calls_before calls
+pub made_front : {first machine : MachineState} {told : Option (List ℕ)} {k : ℕ} {left before now later : Option (List ℕ)} {buffer : List ℕ}
+    {calls_before calls : ℕ} (n : ℕ) (result : Result Finish DriveError) → k ≤ n → length buffer < 512 → IsLast machine k n → result ≡ Err Write →
+    Underway first told k machine left before now buffer calls_before calls → AppendsFront now later buffer →
+    MadeAtMost n result first machine told left before later calls_before calls
 made_front {first} {machine} {told} {k} {left} {before} {now} {later} {buffer} {calls_before} {calls} n result le room last failed u bytes =
     let a = u.on [] (λ e. refl) in
     let same : length (u.bytes ++ []) ≡ length u.bytes = ap length (append-nil u.bytes) in
@@ -330,7 +382,9 @@ made_front {first} {machine} {told} {k} {left} {before} {now} {later} {buffer} {
       lacks = λ e. lacks_flush n k _ first machine (input_for first.given (u.bytes ++ [])) before now later buffer room a.0.stands (inr last) u.waits.ended a.0.out a.1 (grows_front now later buffer bytes);
     }
 
-stands_next : (first : MachineState) (k : ℕ) (input : List ℕ) (new : MachineState) → StandsAt (advance first.data_start (driven first k input)) (driven_fits first k input && counters_fit (advance first.data_start (driven first k input))) new first.data_start → StandsAt (driven first (suc k) input) (driven_fits first (suc k) input) new first.data_start
+stands_next : (first : MachineState) (k : ℕ) (input : List ℕ) (new : MachineState) →
+    StandsAt (advance first.data_start (driven first k input)) (driven_fits first k input && counters_fit (advance first.data_start (driven first k input))) new
+    first.data_start → StandsAt (driven first (suc k) input) (driven_fits first (suc k) input) new first.data_start
 stands_next first k input new s = subst (λ x. StandsAt x (driven_fits first k input && counters_fit x) new first.data_start) (sym (run_suc k first.data_start (going_on first input))) s
 
 front_next : (first : MachineState) (k : ℕ) (input : List ℕ) (before now : Option (List ℕ)) → HoldsFront before now (advance first.data_start (driven first k input)).printed → HoldsFront before now (driven first (suc k) input).printed
@@ -349,7 +403,10 @@ left_same (Some (Some byte)) zero left g = cc
 left_same (Some (Some byte)) (suc k) left g = refl
 
 -- at most n instructions where a read failed
-made_unread : {first old new : MachineState} {told : Option (List ℕ)} {k : ℕ} {left after before now later : Option (List ℕ)} {buffer waiting : List ℕ} {calls_before calls calls_now : ℕ} (n : ℕ) (result : Result Finish DriveError) → k + 1 ≤ n → result ≡ Err Read → Underway first told k old left before now buffer calls_before calls → Turns (Err Read) old new left after now later buffer waiting calls calls_now → KeepsEnd old new → new ≡ old → WantsAByte new → MadeAtMost n result first new told after before later calls_before calls_now
+made_unread : {first old new : MachineState} {told : Option (List ℕ)} {k : ℕ} {left after before now later : Option (List ℕ)} {buffer waiting : List ℕ}
+    {calls_before calls calls_now : ℕ} (n : ℕ) (result : Result Finish DriveError) → k + 1 ≤ n → result ≡ Err Read →
+    Underway first told k old left before now buffer calls_before calls → Turns (Err Read) old new left after now later buffer waiting calls calls_now →
+    KeepsEnd old new → new ≡ old → WantsAByte new → MadeAtMost n result first new told after before later calls_before calls_now
 made_unread {first} {old} {new} {told} {k} {left} {after} {before} {now} {later} {buffer} {waiting} {calls_before} {calls} {calls_now} n result le failed u t over kept w =
     let b = before_it u t over in
     let x = b.on [] (λ e. refl) in
@@ -375,7 +432,11 @@ made_unread {first} {old} {new} {told} {k} {left} {after} {before} {now} {later}
     }
 
 -- and where a write failed
-made_unwritten : {first old new : MachineState} {told : Option (List ℕ)} {k : ℕ} {left after before now later : Option (List ℕ)} {buffer waiting : List ℕ} {calls_before calls calls_now : ℕ} (n : ℕ) (result : Result Finish DriveError) → k + 1 ≤ n → result ≡ Err Write → length buffer < 512 → HoldsAll now later [] → Underway first told k old left before now buffer calls_before calls → Turns (Err Write) old new left after now later buffer waiting calls calls_now → KeepsEnd old new → MadeAtMost n result first new told after before later calls_before calls_now
+made_unwritten : {first old new : MachineState} {told : Option (List ℕ)} {k : ℕ} {left after before now later : Option (List ℕ)} {buffer waiting : List ℕ}
+    {calls_before calls calls_now : ℕ} (n : ℕ) (result : Result Finish DriveError) → k + 1 ≤ n → result ≡ Err Write → length buffer < 512 →
+    HoldsAll now later [] → Underway first told k old left before now buffer calls_before calls →
+    Turns (Err Write) old new left after now later buffer waiting calls calls_now → KeepsEnd old new →
+    MadeAtMost n result first new told after before later calls_before calls_now
 made_unwritten {first} {old} {new} {told} {k} {left} {after} {before} {now} {later} {buffer} {waiting} {calls_before} {calls} {calls_now} n result le failed room grows u t over =
     let b = before_it u t over in
     let x = b.on [] (λ e. refl) in
@@ -416,36 +477,58 @@ made_unwritten {first} {old} {new} {told} {k} {left} {after} {before} {now} {lat
     (turn_runs t before (driven first k input) (driven_fits first k input) first.data_start _ _ x.1 x.2.0)
 
 -- at most n instructions where a turn failed
-pub made_broken : {first old new : MachineState} {told : Option (List ℕ)} {k : ℕ} {left after before now later : Option (List ℕ)} {buffer waiting : List ℕ} {calls_before calls calls_now : ℕ} (error : DriveError) (r : Result (Option End) DriveError) (n : ℕ) (result : Result Finish DriveError) → k + 1 ≤ n → length buffer < 512 → HoldsAll now later [] → r ≡ Err error → result ≡ Err error → Underway first told k old left before now buffer calls_before calls → Turns r old new left after now later buffer waiting calls calls_now → KeepsEnd old new → (r ≡ Err Read → new ≡ old) → (r ≡ Err Read → WantsAByte new) → MadeAtMost n result first new told after before later calls_before calls_now
+pub made_broken : {first old new : MachineState} {told : Option (List ℕ)} {k : ℕ} {left after before now later : Option (List ℕ)} {buffer waiting : List ℕ}
+    {calls_before calls calls_now : ℕ} (error : DriveError) (r : Result (Option End) DriveError) (n : ℕ) (result : Result Finish DriveError) → k + 1 ≤ n →
+    length buffer < 512 → HoldsAll now later [] → r ≡ Err error → result ≡ Err error → Underway first told k old left before now buffer calls_before calls →
+    Turns r old new left after now later buffer waiting calls calls_now → KeepsEnd old new → (r ≡ Err Read → new ≡ old) → (r ≡ Err Read → WantsAByte new) →
+    MadeAtMost n result first new told after before later calls_before calls_now
 made_broken {first} {old} {new} {told} {k} {left} {after} {before} {now} {later} {buffer} {waiting} {calls_before} {calls} {calls_now} Read r n result le room grows failed same u t over kept wants =
     made_unread n result le same u (subst (λ r. Turns r old new left after now later buffer waiting calls calls_now) failed t) over (kept failed) (wants failed)
 made_broken {first} {old} {new} {told} {k} {left} {after} {before} {now} {later} {buffer} {waiting} {calls_before} {calls} {calls_now} Write r n result le room grows failed same u t over kept wants =
     made_unwritten n result le same room grows u (subst (λ r. Turns r old new left after now later buffer waiting calls calls_now) failed t) over
 
 -- the moment of a failed read
-pub read_here : {first old new : MachineState} {told : Option (List ℕ)} {k : ℕ} {left after before now later : Option (List ℕ)} {buffer waiting : List ℕ} {calls_before calls calls_now : ℕ} (r : Result (Option End) DriveError) (n : ℕ) → k < n → r ≡ Err Read → new ≡ old → WantsAByte new → Underway first told k old left before now buffer calls_before calls → Turns r old new left after now later buffer waiting calls calls_now → IfSome told (λ bytes. (j : ℕ) × (j < n) × IsDriven first j bytes new after before later [])
+pub read_here : {first old new : MachineState} {told : Option (List ℕ)} {k : ℕ} {left after before now later : Option (List ℕ)} {buffer waiting : List ℕ}
+    {calls_before calls calls_now : ℕ} (r : Result (Option End) DriveError) (n : ℕ) → k < n → r ≡ Err Read → new ≡ old → WantsAByte new →
+    Underway first told k old left before now buffer calls_before calls → Turns r old new left after now later buffer waiting calls calls_now →
+    IfSome told (λ bytes. (j : ℕ) × (j < n) × IsDriven first j bytes new after before later [])
 read_here {first} {old} {new} {told} {k} {left} {after} {before} {now} {later} {buffer} {waiting} {calls_before} {calls} {calls_now} r n less failed same wants u t =
     let none : old.given ≡ None = sym (ap (λ m. m.given) same) ∙ wants.not_given in
     let from : LeftAfter t.taken left after = subst (λ g. ComesFrom g t.taken left after) none t.takes.from in
-    let l : LeftAfter t.taken (left_of first.given k left) (left_of first.given k after) = left_kept first.given k k t.taken left after (sym none ∙ u.given) (omega arith) (λ h. none_asked t.taken old k first.given u.given (u.by_hand h) t.takes.wanted h none) from in
+    let l : LeftAfter t.taken (left_of first.given k left) (left_of first.given k after) =
+    left_kept first.given k k t.taken left after (sym none ∙ u.given) (omega arith)
+    (λ h. none_asked t.taken old k first.given u.given (u.by_hand h) t.takes.wanted h none) from in
     let runs : Runs (Err Read) old new t.taken before now later buffer waiting = subst (λ r. Runs r old new t.taken before now later buffer waiting) failed (turn_runs t before) in
     told_map told (λ bytes. Progress first k bytes old left before now buffer) (λ bytes. (j : ℕ) × (j < n) × IsDriven first j bytes new after before later [])
     (λ bytes a. (k, less, runs (driven first k (input_for first.given bytes)) (driven_fits first k (input_for first.given bytes)) first.data_start _ _ l a.0)) u.here
 
 -- the input left before an instruction that was not made
-left_unmade : (first old new : MachineState) (told : Option (List ℕ)) (k : ℕ) (left after before now : Option (List ℕ)) (buffer : List ℕ) (calls_before calls : ℕ) (taken : Option (Option ℕ)) (input : List ℕ) → Underway first told k old left before now buffer calls_before calls → IsTaken old new taken left after → taken ≡ None → left_of first.given k left ≡ Some input → left_of first.given k after ≡ Some input
+left_unmade : (first old new : MachineState) (told : Option (List ℕ)) (k : ℕ) (left after before now : Option (List ℕ)) (buffer : List ℕ)
+    (calls_before calls : ℕ) (taken : Option (Option ℕ)) (input : List ℕ) → Underway first told k old left before now buffer calls_before calls →
+    IsTaken old new taken left after → taken ≡ None → left_of first.given k left ≡ Some input → left_of first.given k after ≡ Some input
 left_unmade first old new told k left after before now buffer calls_before calls taken input u t none is =
     let bare : old.given ≡ None = given_none old.given taken left after t.from none in
     let from : LeftAfter taken left after = subst (λ g. ComesFrom g taken left after) bare t.from in
     let l : LeftAfter taken (left_of first.given k left) (left_of first.given k after) = left_kept first.given k k taken left after (sym bare ∙ u.given) (omega arith) (λ h. none) from in
     subst (λ x. LeftAfter None x (left_of first.given k after)) is (subst (λ x. LeftAfter x (left_of first.given k left) (left_of first.given k after)) none l)
 
-written_next : (first : MachineState) (k : ℕ) (bytes : List ℕ) (new : MachineState) (left before now : Option (List ℕ)) → StandsWritten (advance first.data_start (driven first k (input_for first.given bytes))) (driven_fits first k (input_for first.given bytes) && counters_fit (advance first.data_start (driven first k (input_for first.given bytes)))) new first.data_start (left_of first.given (suc k) left) before now → StandsWritten (driven first (suc k) (input_for first.given bytes)) (driven_fits first (suc k) (input_for first.given bytes)) new first.data_start (left_of first.given (suc k) left) before now
+written_next : (first : MachineState) (k : ℕ) (bytes : List ℕ) (new : MachineState) (left before now : Option (List ℕ)) →
+    StandsWritten (advance first.data_start (driven first k (input_for first.given bytes)))
+    (driven_fits first k (input_for first.given bytes) && counters_fit (advance first.data_start (driven first k (input_for first.given bytes)))) new
+    first.data_start (left_of first.given (suc k) left) before now →
+    StandsWritten (driven first (suc k) (input_for first.given bytes)) (driven_fits first (suc k) (input_for first.given bytes)) new first.data_start
+    (left_of first.given (suc k) left) before now
 written_next first k bytes new left before now s =
-    subst (λ x. StandsWritten x (driven_fits first k (input_for first.given bytes) && counters_fit x) new first.data_start (left_of first.given (suc k) left) before now) (sym (run_suc k first.data_start (going_on first (input_for first.given bytes)))) s
+    subst
+    (λ x.
+    StandsWritten x (driven_fits first k (input_for first.given bytes) && counters_fit x) new first.data_start (left_of first.given (suc k) left) before
+    now) (sym (run_suc k first.data_start (going_on first (input_for first.given bytes)))) s
 
 -- the moment of a failed write
-pub write_here : {first old new : MachineState} {told : Option (List ℕ)} {k : ℕ} {left after before now later : Option (List ℕ)} {buffer waiting : List ℕ} {calls_before calls calls_now : ℕ} (r : Result (Option End) DriveError) (n : ℕ) → k + 1 ≤ n → length buffer < 512 → HoldsAll now later [] → r ≡ Err Write → Underway first told k old left before now buffer calls_before calls → Turns r old new left after now later buffer waiting calls calls_now → IfSome told (λ bytes. IsBrokenOff n first bytes new after before later)
+pub write_here : {first old new : MachineState} {told : Option (List ℕ)} {k : ℕ} {left after before now later : Option (List ℕ)} {buffer waiting : List ℕ}
+    {calls_before calls calls_now : ℕ} (r : Result (Option End) DriveError) (n : ℕ) → k + 1 ≤ n → length buffer < 512 → HoldsAll now later [] → r ≡ Err Write →
+    Underway first told k old left before now buffer calls_before calls → Turns r old new left after now later buffer waiting calls calls_now →
+    IfSome told (λ bytes. IsBrokenOff n first bytes new after before later)
 write_here {first} {old} {new} {told} {k} {left} {after} {before} {now} {later} {buffer} {waiting} {calls_before} {calls} {calls_now} r n le room grows failed u t =
     let runs : Runs (Err Write) old new t.taken before now later buffer waiting = subst (λ r. Runs r old new t.taken before now later buffer waiting) failed (turn_runs t before) in
     told_map told (λ bytes. Progress first k bytes old left before now buffer) (λ bytes. IsBrokenOff n first bytes new after before later)
@@ -465,13 +548,16 @@ write_here {first} {old} {new} {told} {k} {left} {after} {before} {now} {later} 
     (runs (driven first k input) (driven_fits first k input) first.data_start _ _ (told_left t.taken first old new told k left after before now buffer calls_before calls u t.takes) a.0)) u.here
 
 -- a machine that was told by hand that there is no byte does not ask the console
-pub no_wish : {first machine : MachineState} {told : Option (List ℕ)} {k : ℕ} {left before now : Option (List ℕ)} {buffer : List ℕ} {calls_before calls : ℕ} → Underway first told k machine left before now buffer calls_before calls → first.given ≡ Some None → WantsAByte machine → ⊥
+pub no_wish : {first machine : MachineState} {told : Option (List ℕ)} {k : ℕ} {left before now : Option (List ℕ)} {buffer : List ℕ} {calls_before calls : ℕ} →
+    Underway first told k machine left before now buffer calls_before calls → first.given ≡ Some None → WantsAByte machine → ⊥
 no_wish {first} {machine} {told} {k} {left} {before} {now} {buffer} {calls_before} {calls} u h w =
     ⊎_elim
     (λ e. let given : machine.given ≡ Some None = u.given ∙ ap (λ k. given_after k first.given) e ∙ h in let none : machine.given ≡ None = w.not_given in cc)
     (λ e. let running : machine.ended ≡ None = w.running in cc) (u.by_hand h)
 
 -- the moment after all instructions
-pub run_here : {first machine : MachineState} {told : Option (List ℕ)} {k : ℕ} {left before now : Option (List ℕ)} {buffer : List ℕ} {calls_before calls : ℕ} (later : Option (List ℕ)) (n : ℕ) → k ≡ n → Underway first told k machine left before now buffer calls_before calls → Appends now later buffer → IfSome told (λ bytes. IsDriven first n bytes machine left before later [])
+pub run_here : {first machine : MachineState} {told : Option (List ℕ)} {k : ℕ} {left before now : Option (List ℕ)} {buffer : List ℕ} {calls_before calls : ℕ}
+    (later : Option (List ℕ)) (n : ℕ) → k ≡ n → Underway first told k machine left before now buffer calls_before calls → Appends now later buffer →
+    IfSome told (λ bytes. IsDriven first n bytes machine left before later [])
 run_here {first} {machine} {told} {k} {left} {before} {now} {buffer} {calls_before} {calls} later n e u bytes =
     subst (λ k. IfSome told (λ bytes. IsDriven first k bytes machine left before later [])) e (flushed_here later u bytes)

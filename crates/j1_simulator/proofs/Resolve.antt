@@ -8,20 +8,29 @@ use Rattle.j1_simulator.specs.RoundMachine.{RingCells, round_storage, ring_top}
 use Rattle.j1_simulator.specs.MachineState.{WentOn, reached_with, with_key}
 
 -- where the next place is known
-going : (e : Effect) (core : Core ℕ RingCells) (cell : ℕ) (memory : List ℕ) (output : Output) (pc : ℕ) → next_pc round_storage e.next core.pc core.t (ring_top core.return_stack) ≡ Some pc → goes_on round_storage e core (Reaches cell memory output) ≡ Advances (moved_on round_storage e core pc cell memory) output
+going : (e : Effect) (core : Core ℕ RingCells) (cell : ℕ) (memory : List ℕ) (output : Output) (pc : ℕ) →
+    next_pc round_storage e.next core.pc core.t (ring_top core.return_stack) ≡ Some pc →
+    goes_on round_storage e core (Reaches cell memory output) ≡ Advances (moved_on round_storage e core pc cell memory) output
 going e core cell memory output pc n = ap (λ o. if_known o (Terminates Missing) (λ p. Advances (moved_on round_storage e core p cell memory) output)) n
 
-asking : (e : Effect) (core : Core ℕ RingCells) (pc : ℕ) → next_pc round_storage e.next core.pc core.t (ring_top core.return_stack) ≡ Some pc → goes_on round_storage e core Asks ≡ Takes (λ byte. moved_on round_storage e core pc byte core.memory)
+asking : (e : Effect) (core : Core ℕ RingCells) (pc : ℕ) → next_pc round_storage e.next core.pc core.t (ring_top core.return_stack) ≡ Some pc →
+    goes_on round_storage e core Asks ≡ Takes (λ byte. moved_on round_storage e core pc byte core.memory)
 asking e core pc n = ap (λ o. if_known o (Terminates Missing) (λ p. Takes (λ byte. moved_on round_storage e core p byte core.memory))) n
 
-pub goes_resolved : (key : Option ℕ) (e : Effect) (core : Core ℕ RingCells) (reach : Reach ℕ) (cell : ℕ) (memory : List ℕ) (output : Output) (pc : ℕ) → Reaches cell memory output ≡ reached_with key core.memory reach → next_pc round_storage e.next core.pc core.t (ring_top core.return_stack) ≡ Some pc → with_key key (goes_on round_storage e core reach) ≡ WentOn (moved_on round_storage e core pc cell memory) output
+pub goes_resolved : (key : Option ℕ) (e : Effect) (core : Core ℕ RingCells) (reach : Reach ℕ) (cell : ℕ) (memory : List ℕ) (output : Output) (pc : ℕ) →
+    Reaches cell memory output ≡ reached_with key core.memory reach → next_pc round_storage e.next core.pc core.t (ring_top core.return_stack) ≡ Some pc →
+    with_key key (goes_on round_storage e core reach) ≡ WentOn (moved_on round_storage e core pc cell memory) output
 goes_resolved key e core (Reaches c m d) cell memory output pc r n = ap (with_key key) (going e core c m d pc n) ∙ cc
 goes_resolved key e core (Faults stop) cell memory output pc r n = cc
 goes_resolved None e core Asks cell memory output pc r n = cc
 goes_resolved (Some byte) e core Asks cell memory output pc r n = ap (with_key (Some byte)) (asking e core pc n) ∙ cc
 
 -- the step of a machine whose N, R, accesses and next place are known
-pub step_done : (key : Option ℕ) (data_start : ℕ) (e : Effect) (core old new : Core ℕ RingCells) (n r cell pc : ℕ) (memory : List ℕ) (output : Output) → core ≡ old → e ≡ effect_at old → n ≡ ring_top core.data_stack → r ≡ ring_top core.return_stack → Reaches cell memory output ≡ reached_with key core.memory (accesses round_storage data_start e.fetches e.stores core.memory core.t n) → next_pc round_storage e.next core.pc core.t r ≡ Some pc → new ≡ moved_on round_storage e core pc cell memory → WentOn new output ≡ with_key key (step round_storage data_start old)
+pub step_done : (key : Option ℕ) (data_start : ℕ) (e : Effect) (core old new : Core ℕ RingCells) (n r cell pc : ℕ) (memory : List ℕ) (output : Output) →
+    core ≡ old → e ≡ effect_at old → n ≡ ring_top core.data_stack → r ≡ ring_top core.return_stack →
+    Reaches cell memory output ≡ reached_with key core.memory (accesses round_storage data_start e.fetches e.stores core.memory core.t n) →
+    next_pc round_storage e.next core.pc core.t r ≡ Some pc → new ≡ moved_on round_storage e core pc cell memory →
+    WentOn new output ≡ with_key key (step round_storage data_start old)
 step_done key data_start e core old new n r cell pc memory output same known top back reached next moved =
     let reached' : Reaches cell memory output ≡ reached_with key core.memory (accesses round_storage data_start e.fetches e.stores core.memory core.t (ring_top core.data_stack)) = cc in
     let next' : next_pc round_storage e.next core.pc core.t (ring_top core.return_stack) ≡ Some pc = cc in

@@ -53,30 +53,54 @@ pub ended_is : (event : Event) (old new : MachineState) → Steps old.ended even
 ended_is event old new h e = steps_ended old.ended event old new refl h e
 
 -- a machine that waits, whose output was written
-pub flushed : (configuration : Configuration ℕ RingCells) (fits : Bool) (machine new : MachineState) (data_start : ℕ) (left before now now' : Option (List ℕ)) (buffer : List ℕ) → IsAt configuration fits machine data_start left before now buffer → new ≡ machine → Appends now now' buffer → IsAt configuration fits new data_start left before now' []
+pub flushed : (configuration : Configuration ℕ RingCells) (fits : Bool) (machine new : MachineState) (data_start : ℕ) (left before now now' : Option (List ℕ))
+    (buffer : List ℕ) → IsAt configuration fits machine data_start left before now buffer → new ≡ machine → Appends now now' buffer →
+    IsAt configuration fits new data_start left before now' []
 flushed configuration fits machine new data_start left before now now' buffer a same bytes =
     subst (λ m. IsAt configuration fits m data_start left before now' []) (sym same) (record { stands = a.stands; left_is = a.left_is; out = holds_flushed before now now' buffer configuration.printed a.out bytes })
 
 -- the same under a stronger premise on the counters
-pub narrowed : (configuration : Configuration ℕ RingCells) (fits later : Bool) (machine : MachineState) (data_start : ℕ) (left before now : Option (List ℕ)) (buffer : List ℕ) → (IsTrue later → IsTrue fits) → IsAt configuration fits machine data_start left before now buffer → IsAt configuration later machine data_start left before now buffer
+pub narrowed : (configuration : Configuration ℕ RingCells) (fits later : Bool) (machine : MachineState) (data_start : ℕ) (left before now : Option (List ℕ))
+    (buffer : List ℕ) → (IsTrue later → IsTrue fits) → IsAt configuration fits machine data_start left before now buffer →
+    IsAt configuration later machine data_start left before now buffer
 narrowed configuration fits later machine data_start left before now buffer f a =
     record { stands = record { core = a.stands.core; start_is = a.stands.start_is; ended = a.stands.ended; depths = λ t. a.stands.depths (f t) }; left_is = a.left_is; out = a.out }
 
 -- a step that was noted
-pub noted : (r : Result (Option End) DriveError) (taken : Option (Option ℕ)) (old : MachineState) (waited : List ℕ) (configuration : Configuration ℕ RingCells) (fits : Bool) (new : MachineState) (data_start : ℕ) (left before now now' : Option (List ℕ)) (buffer buffer' : List ℕ) (event : Event) → Turned (advance data_start configuration) (fits && counters_fit (advance data_start configuration)) new data_start left before now buffer event → OnErr r (r ≡ Err Write) → OnOk r (HoldsPrints before now' buffer' (advance data_start configuration).printed) → OnErr r (HoldsFront before now' (advance data_start configuration).printed)
-    → OnOk r (MayWait old waited → Follows new configuration (advance data_start configuration) waited buffer') → OnErr r (Fills new configuration (advance data_start configuration) waited) → TurnEnds r taken old waited configuration fits new data_start left before now' buffer'
+pub noted : (r : Result (Option End) DriveError) (taken : Option (Option ℕ)) (old : MachineState) (waited : List ℕ) (configuration : Configuration ℕ RingCells)
+    (fits : Bool) (new : MachineState) (data_start : ℕ) (left before now now' : Option (List ℕ)) (buffer buffer' : List ℕ) (event : Event) →
+    Turned (advance data_start configuration) (fits && counters_fit (advance data_start configuration)) new data_start left before now buffer event →
+    OnErr r (r ≡ Err Write) → OnOk r (HoldsPrints before now' buffer' (advance data_start configuration).printed) →
+    OnErr r (HoldsFront before now' (advance data_start configuration).printed)
+    → OnOk r (MayWait old waited → Follows new configuration (advance data_start configuration) waited buffer') →
+    OnErr r (Fills new configuration (advance data_start configuration) waited) →
+    TurnEnds r taken old waited configuration fits new data_start left before now' buffer'
 noted (Ok end) taken old waited configuration fits new data_start left before now now' buffer buffer' event t e h f follows fills = (record { stands = t.at.stands; left_is = t.at.left_is; out = h }, follows)
 noted (Err Read) taken old waited configuration fits new data_start left before now now' buffer buffer' event t e h f follows fills = cc
 noted (Err Write) taken old waited configuration fits new data_start left before now now' buffer buffer' event t e h f follows fills = inr (fills, record { stands = t.at.stands; left_is = t.at.left_is; front = f })
 
 -- a turn whose first flush failed
-pub not_flushed : (r : Result (Option End) DriveError) (configuration : Configuration ℕ RingCells) (fits : Bool) (machine new : MachineState) (data_start : ℕ) (left left' before now now' : Option (List ℕ)) (buffer buffer' : List ℕ) → r ≡ Err Write → LeftAfter None left left' → IsAt configuration fits machine data_start left before now buffer → new ≡ machine → WantsAByte machine → AppendsFront now now' buffer → TurnEnds r None machine buffer configuration fits new data_start left' before now' buffer'
+pub not_flushed : (r : Result (Option End) DriveError) (configuration : Configuration ℕ RingCells) (fits : Bool) (machine new : MachineState) (data_start : ℕ)
+    (left left' before now now' : Option (List ℕ)) (buffer buffer' : List ℕ) → r ≡ Err Write → LeftAfter None left left' →
+    IsAt configuration fits machine data_start left before now buffer → new ≡ machine → WantsAByte machine → AppendsFront now now' buffer →
+    TurnEnds r None machine buffer configuration fits new data_start left' before now' buffer'
 not_flushed r configuration fits machine new data_start left left' before now now' buffer buffer' e l a same w bytes =
     subst (λ r. TurnEnds r None machine buffer configuration fits new data_start left' before now' buffer') (sym e)
-    (inl (refl, subst WantsAByte (sym same) w, record { stands = subst (λ m. StandsAt configuration fits m data_start) (sym same) a.stands; left_is = subst (λ x. LeftAfter None x left') a.left_is l; front = holds_front before now now' buffer configuration.printed a.out bytes }))
+    (inl (
+      refl,
+      subst WantsAByte (sym same) w,
+      record {
+        stands = subst (λ m. StandsAt configuration fits m data_start) (sym same) a.stands;
+        left_is = subst (λ x. LeftAfter None x left') a.left_is l;
+        front = holds_front before now now' buffer configuration.printed a.out bytes;
+      },
+    ))
 
 -- a turn whose question failed
-pub not_asked : (r : Result (Option End) DriveError) (configuration : Configuration ℕ RingCells) (fits : Bool) (machine new : MachineState) (data_start : ℕ) (left left' before now now' : Option (List ℕ)) (buffer buffer' : List ℕ) → r ≡ Err Read → LeftAfter None left left' → IsAt configuration fits machine data_start left before now buffer → new ≡ machine → Appends now now' buffer → TurnEnds r None machine buffer configuration fits new data_start left' before now' buffer'
+pub not_asked : (r : Result (Option End) DriveError) (configuration : Configuration ℕ RingCells) (fits : Bool) (machine new : MachineState) (data_start : ℕ)
+    (left left' before now now' : Option (List ℕ)) (buffer buffer' : List ℕ) → r ≡ Err Read → LeftAfter None left left' →
+    IsAt configuration fits machine data_start left before now buffer → new ≡ machine → Appends now now' buffer →
+    TurnEnds r None machine buffer configuration fits new data_start left' before now' buffer'
 not_asked r configuration fits machine new data_start left left' before now now' buffer buffer' e l a same bytes =
     subst (λ r. TurnEnds r None machine buffer configuration fits new data_start left' before now' buffer') (sym e)
     (kept_left configuration fits new data_start left left' before now' [] l (flushed configuration fits machine new data_start left before now now' buffer a same bytes))
@@ -107,7 +131,8 @@ bare_wants : (old : MachineState) → WantsAByte old → WantsAByte (record old 
 bare_wants old w = record { running = w.running; not_given = refl; taking = w.taking }
 
 -- the console was asked, and told a byte or that there is none
-pub asked_taken : (old machine given new : MachineState) (event : Event) (byte : Option ℕ) (left after : Option (List ℕ)) → WantsAByte old → machine ≡ old → given ≡ record machine { given = Some byte } → Steps given.ended event given new → LeftAfter (Some byte) left after → IsTaken old new (Some byte) left after
+pub asked_taken : (old machine given new : MachineState) (event : Event) (byte : Option ℕ) (left after : Option (List ℕ)) → WantsAByte old → machine ≡ old →
+    given ≡ record machine { given = Some byte } → Steps given.ended event given new → LeftAfter (Some byte) left after → IsTaken old new (Some byte) left after
 asked_taken old machine given new event byte left after w same g h l =
     record {
       from = subst (λ g. ComesFrom g (Some byte) left after) (sym w.not_given) l;

@@ -24,7 +24,8 @@ pub record Unwritten (first : MachineState) (k : ℕ) (input buffer : List ℕ) 
 pub unwritten_first : (first : MachineState) (input : List ℕ) → Unwritten first 0 input []
 unwritten_first first input = record { since = 0; earlier = omega arith; untaken = refl; more = refl }
 
-pub unwritten_on : (first : MachineState) (k : ℕ) (input buffer waiting : List ℕ) → Unwritten first k input buffer → (waiting ≡ []) ⊎ Adds (driven first k input) (advance first.data_start (driven first k input)) buffer waiting → Unwritten first (suc k) input waiting
+pub unwritten_on : (first : MachineState) (k : ℕ) (input buffer waiting : List ℕ) → Unwritten first k input buffer →
+    (waiting ≡ []) ⊎ Adds (driven first k input) (advance first.data_start (driven first k input)) buffer waiting → Unwritten first (suc k) input waiting
 unwritten_on first k input buffer waiting u h =
     let next : driven first (suc k) input ≡ advance first.data_start (driven first k input) = run_suc k first.data_start (going_on first input) in
     ⊎_elim
@@ -46,7 +47,9 @@ waiting_length : (first : MachineState) (k : ℕ) (input buffer : List ℕ) (u :
 waiting_length first k input buffer u = ap length (sym u.more) ∙ length-append (driven first u.since input).printed buffer
 
 -- why bytes were to be written, as the machine and as its run shows it
-due_there : (limit k data_start : ℕ) (configuration : Configuration ℕ RingCells) (fits : Bool) (new : MachineState) → StandsAt configuration fits new data_start → WantsAByte new ⊎ ((end : End) × (new.ended ≡ Some end)) ⊎ (k ≡ limit) → TakesNext data_start configuration ⊎ ((stop : Stop) × (configuration.stop ≡ Some stop)) ⊎ (k ≡ limit)
+due_there : (limit k data_start : ℕ) (configuration : Configuration ℕ RingCells) (fits : Bool) (new : MachineState) →
+    StandsAt configuration fits new data_start → WantsAByte new ⊎ ((end : End) × (new.ended ≡ Some end)) ⊎ (k ≡ limit) →
+    TakesNext data_start configuration ⊎ ((stop : Stop) × (configuration.stop ≡ Some stop)) ⊎ (k ≡ limit)
 due_there limit k data_start configuration fits new s h =
     ⊎_elim
     (λ w. inl (
@@ -63,7 +66,10 @@ ended_there : (configuration : Configuration ℕ RingCells) (fits : Bool) (new :
 ended_there configuration fits new data_start s e = input_ended new.ended (s.ended ∙ e)
 
 -- a failed write before a question, or at the end
-pub lacks_flush : (limit k : ℕ) (fits : Bool) (first new : MachineState) (input : List ℕ) (before now later : Option (List ℕ)) (buffer : List ℕ) → length buffer < 512 → StandsAt (driven first k input) fits new first.data_start → WantsAByte new ⊎ ((end : End) × (new.ended ≡ Some end)) ⊎ (k ≡ limit) → (new.ended ≡ Some InputEnded → buffer ≡ []) → HoldsPrints before now buffer (driven first k input).printed → Unwritten first k input buffer → HoldsAll now later [] → LacksLast limit k (λ k. driven first k input) first.data_start before later
+pub lacks_flush : (limit k : ℕ) (fits : Bool) (first new : MachineState) (input : List ℕ) (before now later : Option (List ℕ)) (buffer : List ℕ) →
+    length buffer < 512 → StandsAt (driven first k input) fits new first.data_start → WantsAByte new ⊎ ((end : End) × (new.ended ≡ Some end)) ⊎ (k ≡ limit) →
+    (new.ended ≡ Some InputEnded → buffer ≡ []) → HoldsPrints before now buffer (driven first k input).printed → Unwritten first k input buffer →
+    HoldsAll now later [] → LacksLast limit k (λ k. driven first k input) first.data_start before later
 lacks_flush limit k fits first new input before now later buffer room stands cause none h u grows =
     let size = waiting_length first k input buffer u in
     record {
@@ -73,15 +79,25 @@ lacks_flush limit k fits first new input before now later buffer room stands cau
       kept = holds_still before now later (driven first u.since input).printed buffer (driven first k input).printed h u.more grows;
       short = λ j less. let le = grown first input j k (omega arith) in omega (arith, size, le);
       due = inr (omega (arith, size), due_there limit k first.data_start (driven first k input) fits new stands cause);
-      ended = λ e. holds_still before now later (driven first k input).printed buffer (driven first k input).printed h (ap (λ b. (driven first k input).printed ++ b) (none (ended_there _ fits new first.data_start stands e)) ∙ append-nil (driven first k input).printed) grows;
+      ended = λ e.
+          holds_still before now later (driven first k input).printed buffer (driven first k input).printed h
+          (ap (λ b. (driven first k input).printed ++ b) (none (ended_there _ fits new first.data_start stands e))
+          ∙ append-nil (driven first k input).printed) grows;
     }
 
 -- a failed write of 512 bytes
-pub lacks_full : (limit k : ℕ) (fits : Bool) (first new : MachineState) (input : List ℕ) (before now later : Option (List ℕ)) (buffer : List ℕ) → length buffer < 512 → StandsAt (driven first (suc k) input) fits new first.data_start → Fills new (driven first k input) (advance first.data_start (driven first k input)) buffer → HoldsPrints before now buffer (driven first k input).printed → Unwritten first k input buffer → HoldsAll now later [] → LacksLast limit (suc k) (λ k. driven first k input) first.data_start before later
+pub lacks_full : (limit k : ℕ) (fits : Bool) (first new : MachineState) (input : List ℕ) (before now later : Option (List ℕ)) (buffer : List ℕ) →
+    length buffer < 512 → StandsAt (driven first (suc k) input) fits new first.data_start →
+    Fills new (driven first k input) (advance first.data_start (driven first k input)) buffer → HoldsPrints before now buffer (driven first k input).printed →
+    Unwritten first k input buffer → HoldsAll now later [] → LacksLast limit (suc k) (λ k. driven first k input) first.data_start before later
 lacks_full limit k fits first new input before now later buffer room stands f h u grows =
     let next : driven first (suc k) input ≡ advance first.data_start (driven first k input) = run_suc k first.data_start (going_on first input) in
     let size = waiting_length first k input buffer u in
-    let whole : length (driven first (suc k) input).printed ≡ length (driven first u.since input).printed + 512 = ap (λ c. length c.printed) next ∙ ap length f.adds.prints ∙ ap (λ x. length (x ++ f.adds.printed)) (sym u.more) ∙ ap length (append_assoc (driven first u.since input).printed buffer f.adds.printed) ∙ ap (λ w. length ((driven first u.since input).printed ++ w)) (sym f.adds.waits) ∙ length-append (driven first u.since input).printed f.waiting ∙ ap (λ n. length (driven first u.since input).printed + n) f.full in
+    let whole : length (driven first (suc k) input).printed ≡ length (driven first u.since input).printed + 512 =
+    ap (λ c. length c.printed) next ∙ ap length f.adds.prints ∙ ap (λ x. length (x ++ f.adds.printed)) (sym u.more)
+    ∙ ap length (append_assoc (driven first u.since input).printed buffer f.adds.printed)
+    ∙ ap (λ w. length ((driven first u.since input).printed ++ w)) (sym f.adds.waits) ∙ length-append (driven first u.since input).printed f.waiting
+    ∙ ap (λ n. length (driven first u.since input).printed + n) f.full in
     record {
       since = u.since;
       earlier = let le = u.earlier in omega (arith, le);

@@ -120,12 +120,16 @@ printed_goes_on event end p e = p (ended_silent event end e)
 prints_of_blank : (xs ys : List ℕ) → HoldsPrints (Some []) (Some []) xs ys → ys ≡ xs
 prints_of_blank xs ys h = let e : h.0 ≡ [] = sym h.1 in sym h.2 ∙ ap (λ w. w ++ xs) e
 
-stepped_prints : (configuration : Configuration ℕ RingCells) (fits : Bool) (machine new : MachineState) (data_start : ℕ) (event : Event) (left left' before now : Option (List ℕ)) (buffer : List ℕ) → IsAt configuration fits machine data_start left before now buffer → GivenIsDue machine → Steps machine.ended event machine new → (event ≡ WantsByte → ⊥) → LeftAfter machine.given left left' → (advance data_start configuration).printed ≡ configuration.printed ++ told event
+stepped_prints : (configuration : Configuration ℕ RingCells) (fits : Bool) (machine new : MachineState) (data_start : ℕ) (event : Event)
+    (left left' before now : Option (List ℕ)) (buffer : List ℕ) → IsAt configuration fits machine data_start left before now buffer → GivenIsDue machine →
+    Steps machine.ended event machine new → (event ≡ WantsByte → ⊥) → LeftAfter machine.given left left' →
+    (advance data_start configuration).printed ≡ configuration.printed ++ told event
 stepped_prints configuration fits machine new data_start event left left' before now buffer a due h apart l =
     let blank : IsAt configuration fits machine data_start left (Some []) (Some []) configuration.printed = record { stands = a.stands; left_is = a.left_is; out = ([], refl, refl) } in
     prints_of_blank (configuration.printed ++ told event) (advance data_start configuration).printed (stepped configuration fits machine new data_start event left left' (Some []) (Some []) configuration.printed blank due h apart l).at.out
 
-stepped_keeps : (configuration to : Configuration ℕ RingCells) (given : Option (Option ℕ)) (left left' : Option (List ℕ)) → given ≡ None → left ≡ Some configuration.input → left' ≡ Some to.input → LeftAfter given left left' → to.input ≡ configuration.input
+stepped_keeps : (configuration to : Configuration ℕ RingCells) (given : Option (Option ℕ)) (left left' : Option (List ℕ)) → given ≡ None →
+    left ≡ Some configuration.input → left' ≡ Some to.input → LeftAfter given left left' → to.input ≡ configuration.input
 stepped_keeps configuration to given left left' none from after l =
     let kept : LeftAfter None (Some configuration.input) (Some to.input) = subst (λ x. LeftAfter None (Some configuration.input) x) after (subst (λ x. LeftAfter None x left') from (subst (λ x. LeftAfter x left left') none l)) in
     cc
@@ -139,7 +143,10 @@ Noted buffer waiting event = (waiting ≡ []) ⊎ (waiting ≡ buffer ++ told ev
 noted_silent : (buffer waiting : List ℕ) (event : Event) → buffer ≡ [] → told event ≡ [] → Noted buffer waiting event → waiting ≡ []
 noted_silent buffer waiting event b s n = ⊎_elim (λ e. e) (λ e. e ∙ ap (λ x. x ++ told event) b ∙ s) n
 
-given_waits : (given : Option (Option ℕ)) (configuration to : Configuration ℕ RingCells) (machine new : MachineState) (event : Event) (buffer waiting : List ℕ) → machine.given ≡ given → GivenIsDue machine → Steps machine.ended event machine new → (machine.given ≡ None → to.input ≡ configuration.input) → to.printed ≡ configuration.printed ++ told event → Noted buffer waiting event → MayWait machine buffer → (waiting ≡ []) ⊎ Adds configuration to buffer waiting
+given_waits : (given : Option (Option ℕ)) (configuration to : Configuration ℕ RingCells) (machine new : MachineState) (event : Event)
+    (buffer waiting : List ℕ) → machine.given ≡ given → GivenIsDue machine → Steps machine.ended event machine new →
+    (machine.given ≡ None → to.input ≡ configuration.input) → to.printed ≡ configuration.printed ++ told event → Noted buffer waiting event →
+    MayWait machine buffer → (waiting ≡ []) ⊎ Adds configuration to buffer waiting
 given_waits None configuration to machine new event buffer waiting g due h kept prints n m =
     ⊎_elim (λ e. inl e) (λ e. inr (record { untaken = kept g; printed = told event; prints = prints; waits = e })) n
 given_waits (Some byte) configuration to machine new event buffer waiting g due h kept prints n m =
@@ -147,7 +154,8 @@ given_waits (Some byte) configuration to machine new event buffer waiting g due 
     inl (noted_silent buffer waiting event none (hand_silent byte machine new event g due h) n)
 
 -- a step that is not asked for its byte ends for want of input only where that was told by hand, or where it had ended so before
-answers_input_ended : (given : Option (Option ℕ)) (o : Transition ℕ RingCells) (event : Event) (old new : MachineState) → OutcomeIsOther o → AnswersStep given o event old new → (event ≡ WantsByte → ⊥) → new.ended ≡ Some ends.InputEnded → given ≡ None → ⊥
+answers_input_ended : (given : Option (Option ℕ)) (o : Transition ℕ RingCells) (event : Event) (old new : MachineState) → OutcomeIsOther o →
+    AnswersStep given o event old new → (event ≡ WantsByte → ⊥) → new.ended ≡ Some ends.InputEnded → given ≡ None → ⊥
 answers_input_ended given (Advances core Silent) event old new other h apart e none = let n : new.ended ≡ None = ap (λ s. s.ended) h.1 in cc
 answers_input_ended given (Advances core (Prints byte)) event old new other h apart e none = let n : new.ended ≡ None = ap (λ s. s.ended) h.1 in cc
 answers_input_ended given (Advances core (Halts status)) event old new other h apart e none = let n : new.ended ≡ Some (ends.Halted status) = ap (λ s. s.ended) h.1 in cc
@@ -159,13 +167,18 @@ answers_input_ended given (Terminates Missing) event old new other h apart e non
 answers_input_ended None (Takes next) event old new other h apart e none = apart h.0
 answers_input_ended (Some key) (Takes next) event old new other h apart e none = cc
 
-ended_waits : (ended : Option End) (machine new : MachineState) (event : Event) (buffer : List ℕ) → machine.ended ≡ ended → Steps ended event machine new → (event ≡ WantsByte → ⊥) → MayWait machine buffer → new.ended ≡ Some ends.InputEnded → buffer ≡ []
+ended_waits : (ended : Option End) (machine new : MachineState) (event : Event) (buffer : List ℕ) → machine.ended ≡ ended → Steps ended event machine new →
+    (event ≡ WantsByte → ⊥) → MayWait machine buffer → new.ended ≡ Some ends.InputEnded → buffer ≡ []
 ended_waits None machine new event buffer m h apart w e =
     ⊎_elim (λ none. absurd (answers_input_ended machine.given (step round_storage machine.data_start machine.core) event machine new (step_is_other machine.data_start machine.core) h apart e none)) (λ b. b) w.by_hand
 ended_waits (Some end) machine new event buffer m h apart w e = w.ended (sym (ap (λ s. s.ended) h.1) ∙ e)
 
 -- what waits after a step that takes no byte of the console
-pub step_follows : (configuration : Configuration ℕ RingCells) (fits : Bool) (machine new : MachineState) (data_start : ℕ) (event : Event) (left left' before now : Option (List ℕ)) (buffer waiting : List ℕ) → IsAt configuration fits machine data_start left before now buffer → GivenIsDue machine → Steps machine.ended event machine new → (event ≡ WantsByte → ⊥) → LeftAfter machine.given left left' → left' ≡ Some (advance data_start configuration).input → Noted buffer waiting event → MayWait machine buffer → Follows new configuration (advance data_start configuration) buffer waiting
+pub step_follows : (configuration : Configuration ℕ RingCells) (fits : Bool) (machine new : MachineState) (data_start : ℕ) (event : Event)
+    (left left' before now : Option (List ℕ)) (buffer waiting : List ℕ) → IsAt configuration fits machine data_start left before now buffer →
+    GivenIsDue machine → Steps machine.ended event machine new → (event ≡ WantsByte → ⊥) → LeftAfter machine.given left left' →
+    left' ≡ Some (advance data_start configuration).input → Noted buffer waiting event → MayWait machine buffer →
+    Follows new configuration (advance data_start configuration) buffer waiting
 step_follows configuration fits machine new data_start event left left' before now buffer waiting a due h apart l after n m =
     let to = advance data_start configuration in
     let kept : machine.given ≡ None → to.input ≡ configuration.input = λ none. stepped_keeps configuration to machine.given left left' none a.left_is after l in
@@ -182,7 +195,11 @@ none_given None machine new event g due h p = g
 none_given (Some byte) machine new event g due h p = absurd (p (hand_silent byte machine new event g due h))
 
 -- a step whose bytes could not be written
-pub step_fills : (configuration : Configuration ℕ RingCells) (fits : Bool) (machine new : MachineState) (data_start : ℕ) (event : Event) (left left' before now : Option (List ℕ)) (buffer : List ℕ) → IsAt configuration fits machine data_start left before now buffer → GivenIsDue machine → Steps machine.ended event machine new → (event ≡ WantsByte → ⊥) → LeftAfter machine.given left left' → left' ≡ Some (advance data_start configuration).input → length (buffer ++ told event) ≡ 512 → (told event ≡ [] → ⊥) → Fills new configuration (advance data_start configuration) buffer
+pub step_fills : (configuration : Configuration ℕ RingCells) (fits : Bool) (machine new : MachineState) (data_start : ℕ) (event : Event)
+    (left left' before now : Option (List ℕ)) (buffer : List ℕ) → IsAt configuration fits machine data_start left before now buffer → GivenIsDue machine →
+    Steps machine.ended event machine new → (event ≡ WantsByte → ⊥) → LeftAfter machine.given left left' →
+    left' ≡ Some (advance data_start configuration).input → length (buffer ++ told event) ≡ 512 → (told event ≡ [] → ⊥) →
+    Fills new configuration (advance data_start configuration) buffer
 step_fills configuration fits machine new data_start event left left' before now buffer a due h apart l after full p =
     let to = advance data_start configuration in
     record {

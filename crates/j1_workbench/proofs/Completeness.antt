@@ -85,7 +85,10 @@ one_refusal one text status other name called first second =
     (λ long. by_kind (λ s. TooLarge ≡ s) text other called second (λ again. refl) (λ r short e. clash text long short) (λ id cause u. clash text long u.short) (λ short e. clash text long short))
     (λ r short e. by_kind (λ s. SourceRefused r ≡ s) text other called second (λ long. clash text long short) (λ s again f. same_outcome text r s e f) (λ id cause u. let f = u.program_is in cc) (λ again f. cc))
     (λ id cause u. by_kind (λ s. NotCertified id cause ≡ s) text other called second (λ long. clash text long u.short) (λ r short e. let f = u.program_is in cc)
-    (λ other reason v. same_definition u.program id other cause reason one u.refusal (subst (λ p. RoundsRefuse p (record { definition = other.0; reason = reason })) (same_program text v.program u.program v.program_is u.program_is) v.refusal))
+    (λ other reason v.
+    same_definition u.program id other cause reason one u.refusal
+    (subst (λ p. RoundsRefuse p (record { definition = other.0; reason = reason })) (same_program text v.program u.program v.program_is u.program_is)
+    v.refusal))
     (λ short e. let f = u.program_is in cc))
     (λ short e. by_kind (λ s. NotYet ≡ s) text other called second (λ long. clash text long short) (λ r again f. cc) (λ id cause u. let f = u.program_is in cc) (λ again f. refl))
 

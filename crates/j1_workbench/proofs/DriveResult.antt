@@ -75,7 +75,8 @@ WriteSays steps machine after result left_now before now bytes =
     result ≡ Err Write → IsBrokenOff steps machine bytes after left_now before now
 
 -- the next instruction takes a byte
-due_there : (image : Content) (input : List ℕ) (k : ℕ) (fits : Bool) (after : MachineState) → StandsAt (round_run image input k) fits after image.data_start → WantsAByte after → IsTaking (step round_storage image.data_start (round_run image input k).core)
+due_there : (image : Content) (input : List ℕ) (k : ℕ) (fits : Bool) (after : MachineState) → StandsAt (round_run image input k) fits after image.data_start →
+    WantsAByte after → IsTaking (step round_storage image.data_start (round_run image input k).core)
 due_there image input k fits after stands wants =
     subst (λ d. IsTaking (step round_storage d (round_run image input k).core)) stands.start_is
     (subst (λ c. IsTaking (step round_storage after.data_start c)) stands.core wants.taking)
@@ -118,11 +119,14 @@ write_failed (Err Write) same = refl
 -- ---- what the drive leaves on the bytes that the console gave
 
 -- what holds after some instructions of a run that has ended holds after more
-ended_later : OnlyGrows round_storage → (image : Content) (bytes : List ℕ) (made steps : ℕ) (fits : Bool) (after : MachineState) (end : End) → made ≤ steps → StandsAt (round_run image bytes made) fits after image.data_start → Some end ≡ after.ended → round_run image bytes steps ≡ round_run image bytes made
+ended_later : OnlyGrows round_storage → (image : Content) (bytes : List ℕ) (made steps : ℕ) (fits : Bool) (after : MachineState) (end : End) → made ≤ steps →
+    StandsAt (round_run image bytes made) fits after image.data_start → Some end ≡ after.ended → round_run image bytes steps ≡ round_run image bytes made
 ended_later grows image bytes made steps fits after end le stands told =
     grows.ends image.data_start made steps (going_on (machine_start image) bytes) (By end) le (sym stands.ended ∙ ap (option_map By) (sym told))
 
-gave_leaves : OnlyGrows round_storage → (image : Content) (steps : ℕ) (after : MachineState) (result : Result Finish DriveError) (left before_left before now : Option (List ℕ)) (calls calls_now : ℕ) → (m : MadeAtMost steps result (machine_start image) after before_left left before now calls calls_now) →
+gave_leaves : OnlyGrows round_storage →
+    (image : Content) (steps : ℕ) (after : MachineState) (result : Result Finish DriveError) (left before_left before now : Option (List ℕ))
+    (calls calls_now : ℕ) → (m : MadeAtMost steps result (machine_start image) after before_left left before now calls calls_now) →
     IfOk result (λ finish. end_told finish ≡ after.ended) → (result ≡ Err Read → WantsAByte after) → DriveLeaves image m.bytes steps (status_after result) (Some []) before now
 gave_leaves grows image steps after (Ok (Ended end)) left before_left before now calls calls_now m same wants =
     let later : round_run image m.bytes steps ≡ round_run image m.bytes m.made = ended_later grows image m.bytes m.made steps _ after end m.within m.stands same in
@@ -172,7 +176,10 @@ vain_as_told (Err Write) (Some ends.InputEnded) same = omega arith
 vain_as_told (Err Write) (Some (ends.Outside address)) same = omega arith
 vain_as_told (Err Write) (Some (ends.Halted status)) same = omega arith
 
-gave : OnlyGrows round_storage → (image : Content) (steps : ℕ) (after : MachineState) (result : Result Finish DriveError) (console_before console_after out_before out_after : Stream) → MadeAtMost steps result (machine_start image) after console_before.bytes console_after.bytes out_before.bytes out_after.bytes console_before.calls console_after.calls →
+gave : OnlyGrows round_storage →
+    (image : Content) (steps : ℕ) (after : MachineState) (result : Result Finish DriveError) (console_before console_after out_before out_after : Stream) →
+    MadeAtMost steps result (machine_start image) after console_before.bytes console_after.bytes out_before.bytes out_after.bytes console_before.calls
+    console_after.calls →
     IfOk result (λ finish. end_told finish ≡ after.ended) → (result ≡ Err Read → WantsAByte after) → Gave image steps console_before console_after out_before out_after (status_after result)
 gave grows image steps after result console_before console_after out_before out_after m same wants =
     let most = vain_as_told result after.ended same in
@@ -207,7 +214,11 @@ drives grows image steps machine after result status console_before console_afte
       (subst (λ m. WriteSays steps m after result console_after.bytes out_before.bytes out_after.bytes input) begins broken)
       same wants);
   gave = subst (λ s. Gave image steps console_before console_after out_before out_after s) (sym is)
-      (gave grows image steps after result console_before console_after out_before out_after (subst (λ m. MadeAtMost steps result m after console_before.bytes console_after.bytes out_before.bytes out_after.bytes console_before.calls console_after.calls) begins made) same wants);
+      (gave grows image steps after result console_before console_after out_before out_after
+      (subst
+      (λ m.
+      MadeAtMost steps result m after console_before.bytes console_after.bytes out_before.bytes out_after.bytes console_before.calls
+      console_after.calls) begins made) same wants);
   calls = calls;
   read_fault = λ fault. read_cause (read_failed result (sym is ∙ fault));
   write_fault = λ fault. write_cause (write_failed result (sym is ∙ fault));

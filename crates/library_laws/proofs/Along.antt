@@ -31,7 +31,8 @@ module _ (high return_high base : ℕ) (p : SourceProgram) (fs : List Frame) whe
   along (suc j) s u st e busy = through (step p s) refl (let b = busy 0 s (omega arith) refl in keeps_step s b.0 b.1 b.2 st) e (λ s' x f k g. along j s' u f k g)
     where
       through : (x : Outcome) → step p s ≡ x → Keeps high return_high base p fs x → and_then x (steps p j) ≡ Goes u →
-          ((s' : State) → step p s ≡ Goes s' → Stays high return_high base p fs s' → steps p j s' ≡ Goes u → ((i : ℕ) (v : State) → i < j → steps p i s' ≡ Goes v → Busy v) → Stays high return_high base p fs u) → Stays high return_high base p fs u
+          ((s' : State) → step p s ≡ Goes s' → Stays high return_high base p fs s' → steps p j s' ≡ Goes u →
+          ((i : ℕ) (v : State) → i < j → steps p i s' ≡ Goes v → Busy v) → Stays high return_high base p fs u) → Stays high return_high base p fs u
       through (Goes s') x k f more = more s' x k f (λ i v h g. busy (suc i) v (omega (arith, h)) (ap (λ z. and_then z (steps p i)) x ∙ g))
       through (Ends end w) x k f more = let no : ⊥ = cc in absurd no
 

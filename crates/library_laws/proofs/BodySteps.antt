@@ -61,7 +61,9 @@ module _ (p : SourceProgram) where
   unfolding body_spent
   spent_from t u zero s = refl
   spent_from t u (suc k) s = by s.work _ _
-      (ap (λ n. spent_after n (step p s) (body_spent p n k)) (plus t u (step_price s)) ∙ after (step p s) (body_spent p (t + (u + step_price s)) k) (body_spent p (u + step_price s) k) (u + step_price s) (λ s'. spent_from t (u + step_price s) k s'))
+      (ap (λ n. spent_after n (step p s) (body_spent p n k)) (plus t u (step_price s))
+      ∙ after (step p s) (body_spent p (t + (u + step_price s)) k) (body_spent p (u + step_price s) k) (u + step_price s)
+      (λ s'. spent_from t (u + step_price s) k s'))
     where
       plus : (a b c : ℕ) → (a + b) + c ≡ a + (b + c)
       plus a b c = omega arith
@@ -93,7 +95,9 @@ module _ (p : SourceProgram) where
       plus k m = omega arith
 
       by : (ws : List Work) → s.work ≡ ws → where_left ws (Goes s) (and_then (step p s) (body_steps p k)) ≡ Goes u →
-          (and_then (step p s) (body_steps p k) ≡ Goes u → spent_after (t + step_price s) (step p s) (body_spent p (t + step_price s) (k + m)) ≡ body_spent p (spent_after (t + step_price s) (step p s) (body_spent p (t + step_price s) k)) m u) →
+          (and_then (step p s) (body_steps p k) ≡ Goes u →
+          spent_after (t + step_price s) (step p s) (body_spent p (t + step_price s) (k + m))
+          ≡ body_spent p (spent_after (t + step_price s) (step p s) (body_spent p (t + step_price s) k)) m u) →
           where_left ws t (spent_after (t + step_price s) (step p s) (body_spent p (t + step_price s) (k + m))) ≡ body_spent p (where_left ws t (spent_after (t + step_price s) (step p s) (body_spent p (t + step_price s) k))) m u
       by [] e f g = sym (spent_ended [] m t s e refl) ∙ ap (λ o. spent_after 0 o (body_spent p t m)) f
       by (w ∷ ws) e f g = g f

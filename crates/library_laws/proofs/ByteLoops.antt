@@ -64,7 +64,11 @@ module _ (p : SourceProgram) (callers : List Frame) (c' : List ℕ) (w' : World)
   unfolding step body_steps body_spent
   moved_down zero a b c w fn h = at_once p 4 refl (omega arith)
   moved_down (suc n) a b c w fn h = by_way p 6 (83 + 84 * n) refl (omega arith) (rw (less_one n fn)
-      (renamed p (ap (λ r. on_cells r (finished callers c' w')) (sym (regrouped (copy_byte (sum_of a n) (sum_of b n) w) (λ _. move_down n a b) (λ _. Gives c) ∙ regrouped (fetch_byte (sum_of a n) w) (λ x. store_byte (sum_of b n) x) (λ _ w. move_down n a b w ▸ λ _. Gives c))))
+      (renamed p
+      (ap (λ r. on_cells r (finished callers c' w'))
+      (sym
+      (regrouped (copy_byte (sum_of a n) (sum_of b n) w) (λ _. move_down n a b) (λ _. Gives c)
+      ∙ regrouped (fetch_byte (sum_of a n) w) (λ x. store_byte (sum_of b n) x) (λ _ w. move_down n a b w ▸ λ _. Gives c))))
       (by_reply p _ _ _ (fetch_byte (sum_of a n) w) (GivesCell w) 24 (59 + 84 * n) (fetch_byte_gives w h (sum_of a n)) refl refl (omega arith) (λ x w k. by_way p 3 (56 + 84 * n) refl (omega arith)
       (by_reply p _ _ _ (store_byte (sum_of b n) x w) (GivesNothing w) 48 (8 + 84 * n) (store_byte_gives w k.1.world (sum_of b n) x) refl refl (omega arith) (λ u w k. by_way p 3 (5 + 84 * n) refl (omega arith)
       (moved_down n a b c w (omega (arith, fn)) k.world)))))))
@@ -73,7 +77,11 @@ module _ (p : SourceProgram) (callers : List Frame) (c' : List ℕ) (w' : World)
   unfolding step body_steps body_spent
   moved_up zero a b c w fn h = at_once p 3 refl (omega arith)
   moved_up (suc n) a b c w fn h = by_way p 3 (87 + 86 * n) refl (omega arith)
-      (renamed p (ap (λ r. on_cells r (finished callers c' w')) (sym (regrouped (copy_byte a b w) (λ _. move_up n (sum_of a 1) (sum_of b 1)) (λ _. Gives c) ∙ regrouped (fetch_byte a w) (λ x. store_byte b x) (λ _ w. move_up n (sum_of a 1) (sum_of b 1) w ▸ λ _. Gives c))))
+      (renamed p
+      (ap (λ r. on_cells r (finished callers c' w'))
+      (sym
+      (regrouped (copy_byte a b w) (λ _. move_up n (sum_of a 1) (sum_of b 1)) (λ _. Gives c)
+      ∙ regrouped (fetch_byte a w) (λ x. store_byte b x) (λ _ w. move_up n (sum_of a 1) (sum_of b 1) w ▸ λ _. Gives c))))
       (by_reply p _ _ _ (fetch_byte a w) (GivesCell w) 24 (63 + 86 * n) (fetch_byte_gives w h a) refl refl (omega arith) (λ x w k. by_way p 1 (62 + 86 * n) refl (omega arith)
       (by_reply p _ _ _ (store_byte b x w) (GivesNothing w) 48 (14 + 86 * n) (store_byte_gives w k.1.world b x) refl refl (omega arith) (λ u w k. by_way p 8 (4 + 86 * n) refl (omega arith)
       (rw (less_one n fn) (moved_up n (sum_of a 1) (sum_of b 1) c w (omega (arith, fn)) k.world)))))))

@@ -144,7 +144,8 @@ module _ (p : SourceProgram) (callers : List Frame) (c c' : List ℕ) (w' : Worl
 opened : (w : World) → IsWorld w → Giving (open_picture w) (λ _ v. IsLike w v × (pointer v ≡ v.data_start + 96))
 opened w h = let d = h.data_start in
     giving_weaker (open_picture w) (λ _ v. IsLike w v × ((pointer v ≡ w.data_start + 96) × (v.data_start ≡ w.data_start))) (λ _ v. IsLike w v × (pointer v ≡ v.data_start + 96))
-    (giving_both (open_picture w) (GivesNothing w) (λ _ v. (pointer v ≡ w.data_start + 96) × (v.data_start ≡ w.data_start)) (store_gives w h (w.data_start + 2) (w.data_start + 96) (omega (arith, d))) (pointer_stored w (w.data_start + 96) h))
+    (giving_both (open_picture w) (GivesNothing w) (λ _ v. (pointer v ≡ w.data_start + 96) × (v.data_start ≡ w.data_start))
+    (store_gives w h (w.data_start + 2) (w.data_start + 96) (omega (arith, d))) (pointer_stored w (w.data_start + 96) h))
     (λ u v q. (q.0, let a = q.1.0 in let b = q.1.1 in omega (arith, a, b)))
 
 -- the digits of a number that is shown, and then the rest
@@ -153,7 +154,9 @@ module _ (p : SourceProgram) (callers : List Frame) (c c' : List ℕ) (w' : Worl
   at_loop n v = record { work = Todo (Until digits) ∷ after; entries = []; callers = callers; cells = 0 ∷ n ∷ rest_cells; world = v }
 
   shown : (n b : ℕ) (v : World) → n < 65536 → IsWorld v → pointer v ≡ v.data_start + 96 →
-      ((z : World) → IsWorld z → z.data_start + 80 ≤ pointer z → pointer z ≤ z.data_start + 96 → Comes p b (record { work = after; entries = []; callers = callers; cells = 0 ∷ 0 ∷ rest_cells; world = z }) (on_cells (more z ▸ λ _. Gives c) (finished callers c' w'))) →
+      ((z : World) → IsWorld z → z.data_start + 80 ≤ pointer z → pointer z ≤ z.data_start + 96 →
+      Comes p b (record { work = after; entries = []; callers = callers; cells = 0 ∷ 0 ∷ rest_cells; world = z })
+      (on_cells (more z ▸ λ _. Gives c) (finished callers c' w'))) →
       Comes p (96096 + b) (at_loop n v) (on_cells ((hold_all n v ▸ λ _. more) ▸ λ _. Gives c) (finished callers c' w'))
   unfolding step body_steps body_spent
   shown n b v fn h e rest =

@@ -58,14 +58,18 @@ star_slash_mod p callers c w need cells world = let no : ⊥ = omega (arith, nee
 
 -- a word that gives both parts of a division, and then the quotient alone or the remainder alone
 module _ (p : SourceProgram) (callers : List Frame) (w w' : World) (c c' c'' : List ℕ) (word : Word) (price : ℕ) where
-  quotient_left : (d : Division) → step p (record { work = Todo (Plain word) ∷ Todo (Plain Swap) ∷ Todo (Plain DropTop) ∷ []; entries = []; callers = callers; cells = c; world = w }) ≡ on_cells (both d c' w) (record { work = Todo (Plain Swap) ∷ Todo (Plain DropTop) ∷ []; entries = []; callers = callers; cells = c; world = w }) →
+  quotient_left : (d : Division) →
+      step p (record { work = Todo (Plain word) ∷ Todo (Plain Swap) ∷ Todo (Plain DropTop) ∷ []; entries = []; callers = callers; cells = c; world = w })
+      ≡ on_cells (both d c' w) (record { work = Todo (Plain Swap) ∷ Todo (Plain DropTop) ∷ []; entries = []; callers = callers; cells = c; world = w }) →
       next_price (record { work = Todo (Plain word) ∷ Todo (Plain Swap) ∷ Todo (Plain DropTop) ∷ []; entries = []; callers = callers; cells = c; world = w }) ≡ Some price →
       Comes p (price + 2) (record { work = Todo (Plain word) ∷ Todo (Plain Swap) ∷ Todo (Plain DropTop) ∷ []; entries = []; callers = callers; cells = c; world = w }) (on_cells (quotient_only d c' w) (finished callers c'' w'))
   unfolding step body_steps body_spent
   quotient_left None e paid = last_step p price e paid (omega arith)
   quotient_left (Some parts) e paid = by_step p price 2 e paid (omega arith) (at_once p 2 refl (omega arith))
 
-  rest_left : (d : Division) → step p (record { work = Todo (Plain word) ∷ Todo (Plain DropTop) ∷ []; entries = []; callers = callers; cells = c; world = w }) ≡ on_cells (both d c' w) (record { work = Todo (Plain DropTop) ∷ []; entries = []; callers = callers; cells = c; world = w }) →
+  rest_left : (d : Division) →
+      step p (record { work = Todo (Plain word) ∷ Todo (Plain DropTop) ∷ []; entries = []; callers = callers; cells = c; world = w })
+      ≡ on_cells (both d c' w) (record { work = Todo (Plain DropTop) ∷ []; entries = []; callers = callers; cells = c; world = w }) →
       next_price (record { work = Todo (Plain word) ∷ Todo (Plain DropTop) ∷ []; entries = []; callers = callers; cells = c; world = w }) ≡ Some price →
       Comes p (price + 1) (record { work = Todo (Plain word) ∷ Todo (Plain DropTop) ∷ []; entries = []; callers = callers; cells = c; world = w }) (on_cells (rest_only d c' w) (finished callers c'' w'))
   unfolding step body_steps body_spent

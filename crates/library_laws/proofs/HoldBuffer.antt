@@ -81,8 +81,12 @@ pub hold_lowers : (w : World) (x : ℕ) → IsWorld w → Giving (hold x w) (λ 
 hold_lowers w x h = subst (λ r. Giving (r ▸ hold_at x) (λ _ v. Lowers w v)) (sym (fetch_pointer w h)) (by_cases (nat_le (w.data_start + 16) (difference_of (pointer w) 1) && nat_le (difference_of (pointer w) 1) (w.data_start + 95))
     (λ e.
     let d = h.data_start in
-    let low : w.data_start + 16 ≤ difference_of (pointer w) 1 = leb-true (w.data_start + 16) (difference_of (pointer w) 1) (and_left (nat_le (w.data_start + 16) (difference_of (pointer w) 1)) (nat_le (difference_of (pointer w) 1) (w.data_start + 95)) e) in
-    let high : difference_of (pointer w) 1 ≤ w.data_start + 95 = leb-true (difference_of (pointer w) 1) (w.data_start + 95) (and_right (nat_le (w.data_start + 16) (difference_of (pointer w) 1)) (nat_le (difference_of (pointer w) 1) (w.data_start + 95)) e) in
+    let low : w.data_start + 16 ≤ difference_of (pointer w) 1 =
+    leb-true (w.data_start + 16) (difference_of (pointer w) 1)
+    (and_left (nat_le (w.data_start + 16) (difference_of (pointer w) 1)) (nat_le (difference_of (pointer w) 1) (w.data_start + 95)) e) in
+    let high : difference_of (pointer w) 1 ≤ w.data_start + 95 =
+    leb-true (difference_of (pointer w) 1) (w.data_start + 95)
+    (and_right (nat_le (w.data_start + 16) (difference_of (pointer w) 1)) (nat_le (difference_of (pointer w) 1) (w.data_start + 95)) e) in
     let small : pointer w < 65536 = h.space ((w.data_start + 2) / 2 - w.data_start / 2) in
     rw (e, hold_at) (lowered w x (difference_of (pointer w) 1) h (omega arith) low high (omega (arith, low, high, small, d))))
     (λ e. rw (e, hold_at) tt))
@@ -106,6 +110,15 @@ digit_lowers w ud h = giving_then (radix w) (λ b w. hold (digit_char (ud % b)) 
     radix_gives =
         let d = h.data_start in
         let a = h.aligned in
-        subst (λ r. Giving (r ▸ λ b w. if nat_le 2 b && nat_le b 36 then Gives b w else Stops (Halted 11) w) (λ b v. (2 ≤ b) × (v ≡ w))) (sym (fetch_is w w.data_start (omega (arith, d)) (omega (arith, a)))) (by_cases (nat_le 2 (slice_index w.space (w.data_start / 2 - w.data_start / 2)) && nat_le (slice_index w.space (w.data_start / 2 - w.data_start / 2)) 36)
-        (λ e. rw e (leb-true 2 (slice_index w.space (w.data_start / 2 - w.data_start / 2)) (and_left (nat_le 2 (slice_index w.space (w.data_start / 2 - w.data_start / 2))) (nat_le (slice_index w.space (w.data_start / 2 - w.data_start / 2)) 36) e), refl))
+        subst (λ r. Giving (r ▸ λ b w. if nat_le 2 b && nat_le b 36 then Gives b w else Stops (Halted 11) w) (λ b v. (2 ≤ b) × (v ≡ w)))
+        (sym (fetch_is w w.data_start (omega (arith, d)) (omega (arith, a))))
+        (by_cases
+        (nat_le 2 (slice_index w.space (w.data_start / 2 - w.data_start / 2)) && nat_le (slice_index w.space (w.data_start / 2 - w.data_start / 2)) 36)
+        (λ e.
+        rw e (
+          leb-true 2 (slice_index w.space (w.data_start / 2 - w.data_start / 2))
+              (and_left (nat_le 2 (slice_index w.space (w.data_start / 2 - w.data_start / 2)))
+              (nat_le (slice_index w.space (w.data_start / 2 - w.data_start / 2)) 36) e),
+          refl,
+        ))
         (λ e. rw e tt))

@@ -55,7 +55,16 @@ fetch_by_sound w h met.Print = tt
 fetch_by_sound w h met.Halt = tt
 
 store_by_sound : (w : World) (h : IsWorld w) (m : Met) (v : ℕ) → v < 65536 → Sound (store_by w v m) (Like w)
-store_by_sound w h (met.Data i) v n = record { world = record { data_start = h.data_start; aligned = h.aligned; room = (let same = set_length w.space (i - w.data_start / 2) v in let room = h.room in omega (arith, same, room)); space = set_fits w.space (i - w.data_start / 2) v n h.space; input = h.input }; start = refl }
+store_by_sound w h (met.Data i) v n = record {
+  world = record {
+    data_start = h.data_start;
+    aligned = h.aligned;
+    room = (let same = set_length w.space (i - w.data_start / 2) v in let room = h.room in omega (arith, same, room));
+    space = set_fits w.space (i - w.data_start / 2) v n h.space;
+    input = h.input;
+  };
+  start = refl;
+}
 store_by_sound w h met.Print v n = record { world = record { data_start = h.data_start; aligned = h.aligned; room = h.room; space = h.space; input = h.input }; start = refl }
 store_by_sound w h met.Halt v n = tt
 store_by_sound w h (met.Outside a) v n = tt
@@ -90,7 +99,9 @@ from_like o r f Q h each = then_sound r f (Like o) Q h each
 -- ---- words over bytes
 type_sound : (n a : ℕ) (o w : World) → IsLike o w → Sound (type_out n a w) (Like o)
 type_sound zero a o w k = k
-type_sound (suc n) a o w k = then_sound (fetch_byte a w) _ (Cell o) (Like o) (fetch_byte_sound o w k a) (λ x v c. from_like o (emit x v) (λ _. type_out n (sum_of a 1)) (Like o) (store_sound o v c.1 0x4000 x c.0) (λ u z l. type_sound n (sum_of a 1) o z l))
+type_sound (suc n) a o w k =
+    then_sound (fetch_byte a w) _ (Cell o) (Like o) (fetch_byte_sound o w k a)
+    (λ x v c. from_like o (emit x v) (λ _. type_out n (sum_of a 1)) (Like o) (store_sound o v c.1 0x4000 x c.0) (λ u z l. type_sound n (sum_of a 1) o z l))
 
 spaces_sound : (n : ℕ) (o w : World) → IsLike o w → Sound (emit_spaces n w) (Like o)
 spaces_sound zero o w k = k
@@ -135,7 +146,9 @@ number_sound : (b n a ud : ℕ) (o w : World) → n < 65536 → a < 65536 → Is
 number_sound b zero a ud o w fn fa k = (fa, omega arith, k)
 number_sound b (suc n) a ud o w fn fa k = then_sound (fetch_byte a w) _ (Cell o) (Rests o) (fetch_byte_sound o w k a) (λ x v c. by_digit (digit_of b x) v c.1 (λ d. number_sound b n (sum_of a 1) d o v (omega (arith, fn)) (omega arith) c.1))
   where
-    by_digit : (d : Option ℕ) (v : World) → IsLike o v → ((d : ℕ) → Sound (number_from b n (sum_of a 1) d v) (Rests o)) → Sound (elim d as (λ _. Reply (ℕ × ℕ × ℕ)) [ None ↦ Gives (ud, a, suc n) v | Some d ↦ number_from b n (sum_of a 1) ((ud * b + d) % 4294967296) v ]) (Rests o)
+    by_digit : (d : Option ℕ) (v : World) → IsLike o v → ((d : ℕ) → Sound (number_from b n (sum_of a 1) d v) (Rests o)) →
+        Sound (elim d as (λ _. Reply (ℕ × ℕ × ℕ)) [ None ↦ Gives (ud, a, suc n) v | Some d ↦ number_from b n (sum_of a 1) ((ud * b + d) % 4294967296) v ])
+        (Rests o)
     by_digit None v l next = (fa, fn, l)
     by_digit (Some d) v l next = next ((ud * b + d) % 4294967296)
 
@@ -146,7 +159,8 @@ open_sound o w k = let d = k.world.data_start in store_sound o w k (w.data_start
 hold_sound : (c : ℕ) (o w : World) → IsLike o w → Sound (hold c w) (Like o)
 hold_sound c o w k = from_cell o w (fetch (w.data_start + 2) w) _ (Like o) k (fetch_sound w k.world (w.data_start + 2)) (λ h v f l.
     either (nat_le (v.data_start + 16) (difference_of h 1) && nat_le (difference_of h 1) (v.data_start + 95)) (store (v.data_start + 2) (difference_of h 1) v ▸ λ _. store_byte (difference_of h 1) c) (Stops (Halted 12) v) (Like o)
-    (from_like o (store (v.data_start + 2) (difference_of h 1) v) (λ _. store_byte (difference_of h 1) c) (Like o) (store_sound o v l (v.data_start + 2) (difference_of h 1) (omega arith)) (λ u z m. store_byte_sound o z m (difference_of h 1) c)) tt)
+    (from_like o (store (v.data_start + 2) (difference_of h 1) v) (λ _. store_byte (difference_of h 1) c) (Like o)
+    (store_sound o v l (v.data_start + 2) (difference_of h 1) (omega arith)) (λ u z m. store_byte_sound o z m (difference_of h 1) c)) tt)
 
 sign_sound : (b : Bool) (o w : World) → IsLike o w → Sound (hold_sign b w) (Like o)
 sign_sound true o w k = hold_sound 45 o w k
@@ -172,7 +186,11 @@ picture_sound : (o w : World) → IsLike o w → Sound (picture w) (Picture o)
 picture_sound o w k = from_cell o w (fetch (w.data_start + 2) w) (λ a w. Gives (a, difference_of (w.data_start + 96) a) w) (Picture o) k (fetch_sound w k.world (w.data_start + 2)) (λ a v f l. (f, omega arith, l))
 
 print_sound : (size : ℕ) (negative : Bool) (o w : World) → IsLike o w → Sound (print_number size negative w) (Like o)
-print_sound size negative o w k = from_like o (open_picture w) _ (Like o) (open_sound o w k) (λ _ w k. from_like o (hold_all size w) _ (Like o) (digits_sound 32 size o w k) (λ _ w k. from_like o (hold_sign negative w) _ (Like o) (sign_sound negative o w k) (λ _ w k.
+print_sound size negative o w k =
+    from_like o (open_picture w) _ (Like o) (open_sound o w k)
+    (λ _ w k.
+    from_like o (hold_all size w) _ (Like o) (digits_sound 32 size o w k)
+    (λ _ w k. from_like o (hold_sign negative w) _ (Like o) (sign_sound negative o w k) (λ _ w k.
     then_sound (picture w) _ (Picture o) (Like o) (picture_sound o w k) (λ q w k. from_like o (type_out q.1 q.0 w) (λ _. emit 32) (Like o) (type_sound q.1 q.0 o w k.2) (λ _ w k. store_sound o w k 0x4000 32 (omega arith))))))
 
 -- ---- divisions
@@ -244,37 +262,67 @@ word_sound UMStar (y ∷ x ∷ c) w e n f h = ((omega arith, (omega arith, f.1.1
 word_sound MStar (y ∷ x ∷ c) w e n f h = ((omega arith, (omega arith, f.1.1)), same w h, (omega arith, omega arith))
 word_sound Star (y ∷ x ∷ c) w e n f h = ((omega arith, f.1.1), same w h, (omega arith, omega arith))
 word_sound UMSlashMod (u ∷ k ∷ l ∷ c) w e n f h = both_sound (unsigned_division (double l k) u) c w _ (unsigned_fits (double l k) u f.0) (λ x y fx fy. ((fy, (fx, f.1.1.1)), same w h, (omega arith, omega arith)))
-word_sound SMSlashRem (u ∷ k ∷ l ∷ c) w e n f h = both_sound (symmetric_division (signed_double l k) (signed u)) c w _ (symmetric_fits (signed_double l k) (signed u)) (λ x y fx fy. ((fy, (fx, f.1.1.1)), same w h, (omega arith, omega arith)))
+word_sound SMSlashRem (u ∷ k ∷ l ∷ c) w e n f h =
+    both_sound (symmetric_division (signed_double l k) (signed u)) c w _ (symmetric_fits (signed_double l k) (signed u))
+    (λ x y fx fy. ((fy, (fx, f.1.1.1)), same w h, (omega arith, omega arith)))
 word_sound FMSlashMod (u ∷ k ∷ l ∷ c) w e n f h = both_sound (floored_division (signed_double l k) (signed u)) c w _ (floored_fits (signed_double l k) (signed u)) (λ x y fx fy. ((fy, (fx, f.1.1.1)), same w h, (omega arith, omega arith)))
 word_sound SlashMod (m ∷ k ∷ c) w e n f h = both_sound (floored_division (signed k) (signed m)) c w _ (floored_fits (signed k) (signed m)) (λ x y fx fy. ((fy, (fx, f.1.1)), same w h, (omega arith, omega arith)))
 word_sound Slash (m ∷ k ∷ c) w e n f h = quotient_sound (floored_division (signed k) (signed m)) c w _ (floored_fits (signed k) (signed m)) (λ y fy. ((fy, f.1.1), same w h, (omega arith, omega arith)))
 word_sound Mod (m ∷ k ∷ c) w e n f h = rest_sound (floored_division (signed k) (signed m)) c w _ (floored_fits (signed k) (signed m)) (λ y fy. ((fy, f.1.1), same w h, (omega arith, omega arith)))
-word_sound StarSlashMod (u ∷ m ∷ k ∷ c) w e n f h = both_sound (floored_division (signed k *ℤ signed m) (signed u)) c w _ (floored_fits (signed k *ℤ signed m) (signed u)) (λ x y fx fy. ((fy, (fx, f.1.1.1)), same w h, (omega arith, omega arith)))
+word_sound StarSlashMod (u ∷ m ∷ k ∷ c) w e n f h =
+    both_sound (floored_division (signed k *ℤ signed m) (signed u)) c w _ (floored_fits (signed k *ℤ signed m) (signed u))
+    (λ x y fx fy. ((fy, (fx, f.1.1.1)), same w h, (omega arith, omega arith)))
 word_sound StarSlash (u ∷ m ∷ k ∷ c) w e n f h = quotient_sound (floored_division (signed k *ℤ signed m) (signed u)) c w _ (floored_fits (signed k *ℤ signed m) (signed u)) (λ y fy. ((fy, f.1.1.1), same w h, (omega arith, omega arith)))
 word_sound CFetch (a ∷ c) w e n f h = then_sound (fetch_byte a w) _ (Cell w) _ (fetch_byte_sound w w (same w h) a) (λ x v k. ((k.0, f.1), k.1, (omega arith, omega arith)))
 word_sound CStore (a ∷ x ∷ c) w e n f h = then_cells CStore (a ∷ x ∷ c) w (store_byte a x w) c (store_byte_sound w w (same w h) a x) f.1.1 (omega arith, omega arith)
-word_sound PlusStore (a ∷ x ∷ c) w e n f h = then_sound (fetch a w) _ (Cell w) _ (fetch_sound w h a) (λ y v k. then_cells PlusStore (a ∷ x ∷ c) w (store a (sum_of y x) v) c (store_sound w v k.1 a (sum_of y x) (omega arith)) f.1.1 (omega arith, omega arith))
-word_sound TwoFetch (a ∷ c) w e n f h = then_sound (fetch (sum_of a 2) w) _ (Cell w) _ (fetch_sound w h (sum_of a 2)) (λ y v k. from_cell w v (fetch a v) _ _ k.1 (fetch_sound v k.1.world a) (λ x z fx l. ((fx, (k.0, f.1)), l, (omega arith, omega arith))))
-word_sound TwoStore (a ∷ y ∷ x ∷ c) w e n f h = from_like w (store a y w) _ _ (store_sound w w (same w h) a y f.1.0) (λ u v k. then_cells TwoStore (a ∷ y ∷ x ∷ c) w (store (sum_of a 2) x v) c (store_sound w v k (sum_of a 2) x f.1.1.0) f.1.1.1 (omega arith, omega arith))
+word_sound PlusStore (a ∷ x ∷ c) w e n f h =
+    then_sound (fetch a w) _ (Cell w) _ (fetch_sound w h a)
+    (λ y v k.
+    then_cells PlusStore (a ∷ x ∷ c) w (store a (sum_of y x) v) c (store_sound w v k.1 a (sum_of y x) (omega arith)) f.1.1 (omega arith, omega arith))
+word_sound TwoFetch (a ∷ c) w e n f h =
+    then_sound (fetch (sum_of a 2) w) _ (Cell w) _ (fetch_sound w h (sum_of a 2))
+    (λ y v k. from_cell w v (fetch a v) _ _ k.1 (fetch_sound v k.1.world a) (λ x z fx l. ((fx, (k.0, f.1)), l, (omega arith, omega arith))))
+word_sound TwoStore (a ∷ y ∷ x ∷ c) w e n f h =
+    from_like w (store a y w) _ _ (store_sound w w (same w h) a y f.1.0)
+    (λ u v k.
+    then_cells TwoStore (a ∷ y ∷ x ∷ c) w (store (sum_of a 2) x v) c (store_sound w v k (sum_of a 2) x f.1.1.0) f.1.1.1 (omega arith, omega arith))
 word_sound Count (a ∷ c) w e n f h = then_sound (fetch_byte a w) _ (Cell w) _ (fetch_byte_sound w w (same w h) a) (λ x v k. ((k.0, (omega arith, f.1)), k.1, (omega arith, omega arith)))
-word_sound Comma (x ∷ c) w e n f h = then_sound (here w) _ (Cell w) _ (fetch_sound w h (w.data_start + 4)) (λ y v k. from_like w (store y x v) _ _ (store_sound w v k.1 y x f.0) (λ u v k. then_cells Comma (x ∷ c) w (grow_here 2 v) c (grow_sound w v k 2) f.1 (omega arith, omega arith)))
-word_sound CComma (x ∷ c) w e n f h = then_sound (here w) _ (Cell w) _ (fetch_sound w h (w.data_start + 4)) (λ y v k. from_like w (store_byte y x v) _ _ (store_byte_sound w v k.1 y x) (λ u v k. then_cells CComma (x ∷ c) w (grow_here 1 v) c (grow_sound w v k 1) f.1 (omega arith, omega arith)))
+word_sound Comma (x ∷ c) w e n f h =
+    then_sound (here w) _ (Cell w) _ (fetch_sound w h (w.data_start + 4))
+    (λ y v k.
+    from_like w (store y x v) _ _ (store_sound w v k.1 y x f.0)
+    (λ u v k. then_cells Comma (x ∷ c) w (grow_here 2 v) c (grow_sound w v k 2) f.1 (omega arith, omega arith)))
+word_sound CComma (x ∷ c) w e n f h =
+    then_sound (here w) _ (Cell w) _ (fetch_sound w h (w.data_start + 4))
+    (λ y v k.
+    from_like w (store_byte y x v) _ _ (store_byte_sound w v k.1 y x)
+    (λ u v k. then_cells CComma (x ∷ c) w (grow_here 1 v) c (grow_sound w v k 1) f.1 (omega arith, omega arith)))
 word_sound Allot (x ∷ c) w e n f h = then_cells Allot (x ∷ c) w (grow_here x w) c (grow_sound w w (same w h) x) f.1 (omega arith, omega arith)
-word_sound Align c w e n f h = then_sound (here w) _ (Cell w) _ (fetch_sound w h (w.data_start + 4)) (λ y v k. then_cells Align c w (store (v.data_start + 4) (even (sum_of y 1)) v) c (store_sound w v k.1 (v.data_start + 4) (even (sum_of y 1)) (omega arith)) f (omega arith, omega arith))
+word_sound Align c w e n f h =
+    then_sound (here w) _ (Cell w) _ (fetch_sound w h (w.data_start + 4))
+    (λ y v k.
+    then_cells Align c w (store (v.data_start + 4) (even (sum_of y 1)) v) c (store_sound w v k.1 (v.data_start + 4) (even (sum_of y 1)) (omega arith)) f
+    (omega arith, omega arith))
 word_sound LessSharp c w e n f h = then_cells LessSharp c w (open_picture w) c (open_sound w w (same w h)) f (omega arith, omega arith)
 word_sound Hold (x ∷ c) w e n f h = then_cells Hold (x ∷ c) w (hold x w) c (hold_sound x w w (same w h)) f.1 (omega arith, omega arith)
 word_sound Sign (x ∷ c) w e n f h = then_cells Sign (x ∷ c) w (hold_sign (int_lt (signed x) (pos 0)) w) c (sign_sound (int_lt (signed x) (pos 0)) w w (same w h)) f.1 (omega arith, omega arith)
 word_sound Sharp (k ∷ l ∷ c) w e n f h = from_like w (hold_digit (double l k) w) _ _ (digit_sound (double l k) w w (same w h)) (λ d v m. ((omega arith, (omega arith, f.1.1)), m, (omega arith, omega arith)))
 word_sound SharpS (k ∷ l ∷ c) w e n f h = from_like w (hold_all (double l k) w) _ _ (digits_sound 32 (double l k) w w (same w h)) (λ d v m. ((omega arith, (omega arith, f.1.1)), m, (omega arith, omega arith)))
 word_sound SharpGreater (k ∷ l ∷ c) w e n f h = then_sound (picture w) _ (Picture w) _ (picture_sound w w (same w h)) (λ q v m. ((m.1, (m.0, f.1.1)), m.2, (omega arith, omega arith)))
-word_sound Dot (x ∷ c) w e n f h = then_cells Dot (x ∷ c) w (print_number (unsigned_abs (signed x)) (int_lt (signed x) (pos 0)) w) c (print_sound (unsigned_abs (signed x)) (int_lt (signed x) (pos 0)) w w (same w h)) f.1 (omega arith, omega arith)
+word_sound Dot (x ∷ c) w e n f h =
+    then_cells Dot (x ∷ c) w (print_number (unsigned_abs (signed x)) (int_lt (signed x) (pos 0)) w) c
+    (print_sound (unsigned_abs (signed x)) (int_lt (signed x) (pos 0)) w w (same w h)) f.1 (omega arith, omega arith)
 word_sound UDot (x ∷ c) w e n f h = then_cells UDot (x ∷ c) w (print_number x false w) c (print_sound x false w w (same w h)) f.1 (omega arith, omega arith)
 word_sound TypeOut (u ∷ a ∷ c) w e n f h = then_cells TypeOut (u ∷ a ∷ c) w (type_out u a w) c (type_sound u a w w (same w h)) f.1.1 (omega arith, omega arith)
 word_sound Spaces (x ∷ c) w e n f h = then_cells Spaces (x ∷ c) w (emit_spaces (positive (signed x)) w) c (spaces_sound (positive (signed x)) w w (same w h)) f.1 (omega arith, omega arith)
 word_sound Fill (x ∷ u ∷ a ∷ c) w e n f h = then_cells Fill (x ∷ u ∷ a ∷ c) w (fill u a x w) c (fill_sound u a x w w (same w h)) f.1.1.1 (omega arith, omega arith)
 word_sound Move (u ∷ b ∷ a ∷ c) w e n f h = then_cells Move (u ∷ b ∷ a ∷ c) w (move u a b w) c (move_sound u a b w w (same w h)) f.1.1.1 (omega arith, omega arith)
 word_sound Accept (u ∷ a ∷ c) w e n f h = then_sound (accept u a 0 w) _ (Cell w) _ (accept_sound u a 0 w w (let k = f.0 in omega (arith, k)) (same w h)) (λ x v k. ((k.0, f.1.1), k.1, (omega arith, omega arith)))
-word_sound ToNumber (u ∷ a ∷ k ∷ l ∷ c) w e n f h = then_sound (base w) _ (Cell w) _ (fetch_sound w h w.data_start) (λ b v m. then_sound (number_from b u a (double l k) v) _ (Rests w) _ (number_sound b u a (double l k) w v f.0 f.1.0 m.1) (λ q z r. ((r.1, (r.0, (omega arith, (omega arith, f.1.1.1.1)))), r.2, (omega arith, omega arith))))
+word_sound ToNumber (u ∷ a ∷ k ∷ l ∷ c) w e n f h =
+    then_sound (base w) _ (Cell w) _ (fetch_sound w h w.data_start)
+    (λ b v m.
+    then_sound (number_from b u a (double l k) v) _ (Rests w) _ (number_sound b u a (double l k) w v f.0 f.1.0 m.1)
+    (λ q z r. ((r.1, (r.0, (omega arith, (omega arith, f.1.1.1.1)))), r.2, (omega arith, omega arith))))
 word_sound word [] w e n f h = let no : ⊥ = grind arith in absurd no
 word_sound word (x ∷ []) w e n f h = let no : ⊥ = grind arith in absurd no
 word_sound word (x ∷ y ∷ []) w e n f h = let no : ⊥ = grind arith in absurd no

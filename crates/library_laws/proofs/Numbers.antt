@@ -1,5 +1,6 @@
 -- >NUMBER
-use Rattle.std.proofs.Common.{◌≡◌, ℕ, zero, suc, ◌+◌, ◌-◌, ◌*◌, ◌/◌, ◌%◌, ◌≤◌, ◌<◌, Bool, true, false, ◌&&◌, nat_le, nat_lt, ◌==◌, if◌then◌else◌, Option, Some, None, List, [], ◌∷◌, refl, ap, sym, ◌∙◌, subst, arith, leb-true, ltb-false, le-ltb}
+use Rattle.std.proofs.Common.{◌≡◌, ℕ, zero, suc, ◌+◌, ◌-◌, ◌*◌, ◌/◌, ◌%◌, ◌≤◌, ◌<◌, Bool, true, false, ◌&&◌, nat_le, nat_lt, ◌==◌, if◌then◌else◌, Option, Some}
+use Rattle.std.proofs.Common.{None, List, [], ◌∷◌, refl, ap, sym, ◌∙◌, subst, arith, leb-true, ltb-false, le-ltb}
 use Rattle.std.specs.Prelude.{slice_index}
 use Rattle.console_ports.specs.Ports.{access_at}
 use Rattle.console_ports.specs.declared.ports.Access.{Access as Met}
@@ -74,7 +75,8 @@ digit_is b x fb fx =
   where
     pick : (c d e : Bool) → (c ≡ true → x - 48 ≡ difference_of x 48) → (d ≡ true → x - 55 ≡ difference_of x 55) → (e ≡ true → x - 87 ≡ difference_of x 87) →
         (if nat_lt (if c then x - 48 else (if d then x - 55 else (if e then x - 87 else 65536))) b then Some (if c then x - 48 else (if d then x - 55 else (if e then x - 87 else 65536))) else None)
-        ≡ (if nat_lt (if c then difference_of x 48 else (if d then difference_of x 55 else (if e then difference_of x 87 else 65535))) b then Some (if c then difference_of x 48 else (if d then difference_of x 55 else (if e then difference_of x 87 else 65535))) else None)
+        ≡ (if nat_lt (if c then difference_of x 48 else (if d then difference_of x 55 else (if e then difference_of x 87 else 65535))) b then Some
+        (if c then difference_of x 48 else (if d then difference_of x 55 else (if e then difference_of x 87 else 65535))) else None)
     pick true d e f g h = ap (λ z. if nat_lt z b then Some z else None) (f refl)
     pick false true e f g h = ap (λ z. if nat_lt z b then Some z else None) (g refl)
     pick false false true f g h = ap (λ z. if nat_lt z b then Some z else None) (h refl)
@@ -149,7 +151,9 @@ module _ (p : SourceProgram) (callers : List Frame) (c c' : List ℕ) (w' : Worl
       Comes p (2441 + 2500 * begins_on n a (if nat_lt y b then Some y else None) v) (in_test 8 (y ∷ suc n ∷ a ∷ h ∷ l ∷ c) v) (leaves (number_on n a (double l h) (if nat_lt y b then Some y else None) v))
   unfolding step body_steps body_spent
   after_byte n a l h y v fn fl fh world same next = by_way p 2 (2439 + 2500 * begins_on n a (if nat_lt y b then Some y else None) v) refl (omega arith)
-      (by_step p 1 (2438 + 2500 * begins_on n a (if nat_lt y b then Some y else None) v) (fetches v world same (before (skip 11 (then_of (test_of (body_of_word ToNumber)))) (TrueEnd ∷ while_left)) [] (y ∷ y ∷ suc n ∷ a ∷ h ∷ l ∷ c)) refl (omega arith)
+      (by_step p 1 (2438 + 2500 * begins_on n a (if nat_lt y b then Some y else None) v)
+      (fetches v world same (before (skip 11 (then_of (test_of (body_of_word ToNumber)))) (TrueEnd ∷ while_left)) [] (y ∷ y ∷ suc n ∷ a ∷ h ∷ l ∷ c)) refl
+      (omega arith)
       (by_way p 2 (2436 + 2500 * begins_on n a (if nat_lt y b then Some y else None) v) refl (omega arith) (by_cases (nat_lt y b)
       (λ t. let less : y < b = leb-true (suc y) b t in
       rw (t, begins_on, number_on) (by_way p 7 (2429 + 2500 * number_begins b n (sum_of a 1) v) refl (omega arith)

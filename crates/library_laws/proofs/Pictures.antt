@@ -36,7 +36,8 @@ pub less_sharp : DefinitionDoes (body_of_word LessSharp) LessSharp
 unfolding step body_steps body_spent
 less_sharp p callers c w need cells world = meant_by 9 (omega arith) refl need (by_way p 5 2 refl (omega arith)
     (last_reply p callers _ _ _ _ _ _ 2 refl
-    (ap (λ a. store a (sum_of w.data_start 96) w ▸ λ _. Gives c) (address w.data_start 2 world.data_start (omega arith)) ∙ ap (λ x. store (w.data_start + 2) x w ▸ λ _. Gives c) (address w.data_start 96 world.data_start (omega arith))) refl (omega arith)))
+    (ap (λ a. store a (sum_of w.data_start 96) w ▸ λ _. Gives c) (address w.data_start 2 world.data_start (omega arith))
+    ∙ ap (λ x. store (w.data_start + 2) x w ▸ λ _. Gives c) (address w.data_start 96 world.data_start (omega arith))) refl (omega arith)))
 
 -- where the hold pointer is h
 abbrev pub hold_at : ℕ → ℕ → World → Reply (Unit {0})
@@ -51,7 +52,13 @@ holds p callers (x ∷ c) w need cells world = meant_by 82 (omega arith) refl ne
     let range : nat_lt (difference_of (difference_of h 1) (sum_of v.data_start 16)) 80 ≡ (nat_le (v.data_start + 16) (difference_of h 1) && nat_le (difference_of h 1) (v.data_start + 95)) =
     ap (λ z. nat_lt (difference_of (difference_of h 1) z) 80) (address v.data_start 16 d (omega arith)) ∙ in_range (difference_of h 1) (v.data_start + 16) 79 (omega arith) (omega (arith, d))
     ∙ ap (λ z. nat_le (v.data_start + 16) (difference_of h 1) && nat_le (difference_of h 1) z) (assoc v.data_start) in
-    by_way p 9 62 refl (omega arith) (renamed p (ap (λ b. on_cells ((if b then (store (v.data_start + 2) (difference_of h 1) v ▸ λ _. store_byte (difference_of h 1) x) else Stops (Halted 12) v) ▸ λ _. Gives c) (finished callers (x ∷ c) w)) range)
+    by_way p 9 62 refl (omega arith)
+    (renamed p
+    (ap
+    (λ b.
+    on_cells
+    ((if b then (store (v.data_start + 2) (difference_of h 1) v ▸ λ _. store_byte (difference_of h 1) x) else Stops (Halted 12) v) ▸ λ _. Gives c)
+    (finished callers (x ∷ c) w)) range)
     (by_cases (nat_lt (difference_of (difference_of h 1) (sum_of v.data_start 16)) 80)
     (λ e. rw e (by_way p 4 56 refl (omega arith) (rw (address v.data_start 2 d (omega arith))
     (renamed p (ap (λ r. on_cells r (finished callers (x ∷ c) w)) (sym (regrouped (store (v.data_start + 2) (difference_of h 1) v) (λ _. store_byte (difference_of h 1) x) (λ _. Gives c))))
@@ -170,7 +177,12 @@ sharp p callers (h ∷ l ∷ c) w need cells world = meant_by 4990 (omega arith)
     (renamed p (ap (λ r. on_cells r (finished callers (h ∷ l ∷ c) w)) (sym (regrouped (radix w) (digit_in p callers h l cells.0 cells.1.0 c (h ∷ l ∷ c) w) (λ d. Gives (put d c))
     ∙ regrouped (fetch w.data_start w) (in_radix p callers h l cells.0 cells.1.0 c (h ∷ l ∷ c) w) (λ b v. digit_in p callers h l cells.0 cells.1.0 c (h ∷ l ∷ c) w b v ▸ λ d. Gives (put d c)))))
     (by_reply p _ _ _ (fetch w.data_start w) (GivesCell w) 1 4988 (fetch_gives w world w.data_start) refl refl (omega arith) (λ b v k. by_way p 6 4976 refl (omega arith)
-    (renamed p (ap (λ t. on_cells ((if t then Gives b v else Stops (Halted 11) v) ▸ λ b v. (digit_in p callers h l cells.0 cells.1.0 c (h ∷ l ∷ c) w b v ▸ λ d. Gives (put d c))) (finished callers (h ∷ l ∷ c) w)) (in_range b 2 34 k.0 (omega arith)))
+    (renamed p
+    (ap
+    (λ t.
+    on_cells
+    ((if t then Gives b v else Stops (Halted 11) v) ▸ λ b v. (digit_in p callers h l cells.0 cells.1.0 c (h ∷ l ∷ c) w b v ▸ λ d. Gives (put d c)))
+    (finished callers (h ∷ l ∷ c) w)) (in_range b 2 34 k.0 (omega arith)))
     (by_cases (nat_lt (difference_of b 2) 35)
     (λ e. let range = small_radix b (in_range b 2 34 k.0 (omega arith)) e in
     rw e (by_way p 1 4969 refl (omega arith) (divided p callers h l cells.0 cells.1.0 c (h ∷ l ∷ c) w b _ _ _ _ v range.0 range.1 (digit_of h l b cells.0 cells.1.0 range.0))))

@@ -83,7 +83,16 @@ module _ (w : World) (h : IsWorld w) where
   fetch_gives a = fetch_by_gives (access_at w.data_start false a)
 
   store_by_gives : (m : Met) (v : ℕ) → v < 65536 → Giving (store_by w v m) (GivesNothing w)
-  store_by_gives (met.Data i) v n = record { world = record { data_start = h.data_start; aligned = h.aligned; room = (let same = set_length w.space (i - w.data_start / 2) v in let room = h.room in omega (arith, same, room)); space = set_fits w.space (i - w.data_start / 2) v n h.space; input = h.input }; start = refl }
+  store_by_gives (met.Data i) v n = record {
+    world = record {
+      data_start = h.data_start;
+      aligned = h.aligned;
+      room = (let same = set_length w.space (i - w.data_start / 2) v in let room = h.room in omega (arith, same, room));
+      space = set_fits w.space (i - w.data_start / 2) v n h.space;
+      input = h.input;
+    };
+    start = refl;
+  }
   store_by_gives met.Print v n = record { world = record { data_start = h.data_start; aligned = h.aligned; room = h.room; space = h.space; input = h.input }; start = refl }
   store_by_gives met.Halt v n = tt
   store_by_gives (met.Outside a) v n = tt

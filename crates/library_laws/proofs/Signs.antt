@@ -128,5 +128,7 @@ symmetric_small l h n k fn = rw (signed_double_small l h k, signed_small h k) (b
 
 -- a negative one, by its size
 pub symmetric_large : (l h n : ℕ) → l < 65536 → 32768 ≤ h → h < 65536 → n < 65536 →
-    symmetric_division (signed_double l h) (signed n) ≡ with_signs (negative (signed h)) (differ (negative (signed h)) (negative (signed n))) (unsigned_division (double (negated l) (difference_of (65535 - h) (flag (l == 0)))) (unsigned_abs (signed n)))
+    symmetric_division (signed_double l h) (signed n)
+    ≡ with_signs (negative (signed h)) (differ (negative (signed h)) (negative (signed n)))
+    (unsigned_division (double (negated l) (difference_of (65535 - h) (flag (l == 0)))) (unsigned_abs (signed n)))
 symmetric_large l h n fl k fh fn = rw (signed_double_large l h k, signed_large h k, negated_double l h fl k fh) (by_sizes (negsuc (4294967295 - double l h)) (signed n) (abs_fits n fn))

@@ -94,9 +94,11 @@ module _ (high return_high : ℕ) where
   Walks (UntilTest body ∷ work) d r =
       (h : ℕ × ℕ) × (x : ℕ × ℕ) × (walk body h.0 h.1 ≡ Some x) × (x.0 ≤ d) × (x.1 ≤ r) × (d ≤ h.0 + 1) × (r ≤ h.1) × (d ≤ high) × (r ≤ return_high) × AtLeast (Walks work) h.0 h.1
   Walks (WhileTest test body ∷ work) d r =
-      (h : ℕ × ℕ) × (x : ℕ × ℕ) × (y : ℕ × ℕ) × (walk test h.0 h.1 ≡ Some x) × (d ≤ x.0) × (r ≤ x.1) × (walk body (x.0 - 1) x.1 ≡ Some y) × (y.0 ≤ h.0) × (y.1 ≤ h.1) × (x.0 ≤ high) × (x.1 ≤ return_high) × (h.0 ≤ high) × (h.1 ≤ return_high) × AtLeast (Walks work) (x.0 - 1) x.1
+      (h : ℕ × ℕ) × (x : ℕ × ℕ) × (y : ℕ × ℕ) × (walk test h.0 h.1 ≡ Some x) × (d ≤ x.0) × (r ≤ x.1) × (walk body (x.0 - 1) x.1 ≡ Some y) × (y.0 ≤ h.0)
+      × (y.1 ≤ h.1) × (x.0 ≤ high) × (x.1 ≤ return_high) × (h.0 ≤ high) × (h.1 ≤ return_high) × AtLeast (Walks work) (x.0 - 1) x.1
   Walks (Repeat test body ∷ work) d r =
-      (h : ℕ × ℕ) × (x : ℕ × ℕ) × (y : ℕ × ℕ) × (walk test h.0 h.1 ≡ Some x) × (d ≤ h.0) × (r ≤ h.1) × (walk body (x.0 - 1) x.1 ≡ Some y) × (y.0 ≤ h.0) × (y.1 ≤ h.1) × (x.0 ≤ high) × (x.1 ≤ return_high) × (h.0 ≤ high) × (h.1 ≤ return_high) × AtLeast (Walks work) (x.0 - 1) x.1
+      (h : ℕ × ℕ) × (x : ℕ × ℕ) × (y : ℕ × ℕ) × (walk test h.0 h.1 ≡ Some x) × (d ≤ h.0) × (r ≤ h.1) × (walk body (x.0 - 1) x.1 ≡ Some y) × (y.0 ≤ h.0)
+      × (y.1 ≤ h.1) × (x.0 ≤ high) × (x.1 ≤ return_high) × (h.0 ≤ high) × (h.1 ≤ return_high) × AtLeast (Walks work) (x.0 - 1) x.1
   Walks (Turn body plus ∷ work) d r =
       (h : ℕ × ℕ) × (x : ℕ × ℕ) × (plus ≡ false) × (walk body h.0 h.1 ≡ Some x) × (x.0 ≤ d) × (x.1 ≤ r) × (d ≤ h.0) × (r ≤ h.1) × (d + 2 ≤ high) × (r ≤ return_high) × AtLeast (Walks work) d (r - 2)
   Walks (other ∷ work) d r = ⊥
@@ -260,7 +262,8 @@ module _ (high return_high : ℕ) where
     reply_keeps (Gives c w) s u n d r g h k l = stays_later (record s { cells = c; world = w }) u d r (omega (arith, g, h)) k l
     reply_keeps (Stops end w) s u n d r g h k l = tt
 
-    word_keeps : (word : Word) (c : List ℕ) (es : List Entry) (s : State) (u : s.callers ≡ fs) (d r : ℕ) (x : ℕ × ℕ) → walk_word word d r ≡ Some x → s.entries ≡ es → length c ≤ base + d → 1 + entries_height es ≤ r → Later s.work x.0 x.1 → Keeps (word_step p word c es s)
+    word_keeps : (word : Word) (c : List ℕ) (es : List Entry) (s : State) (u : s.callers ≡ fs) (d r : ℕ) (x : ℕ × ℕ) → walk_word word d r ≡ Some x →
+        s.entries ≡ es → length c ≤ base + d → 1 + entries_height es ≤ r → Later s.work x.0 x.1 → Keeps (word_step p word c es s)
     word_keeps ToR (v ∷ c) es s u d r x e same h k l =
         let f = within_is d r (d - 1, r + 1) x e in
         stays_later (record s { cells = c; entries = Cell v ∷ es }) u (d - 1) (r + 1) (omega (arith, h)) (omega (arith, k)) (subst (λ z. Later s.work z.0 z.1) (sym f.2) l)
@@ -282,7 +285,8 @@ module _ (high return_high : ℕ) where
         reply_keeps (meaning word c s.world) s u _ (raised (entry_of word).exit d) r (leaves_at_most word c s.world) (raised_more (entry_of word).exit (length c) d h)
         (subst (λ z. 1 + entries_height z ≤ r) (sym same) k) (subst (λ z. Later s.work z.0 z.1) (sym f.2) l)
 
-    flag_keeps : (c : List ℕ) (at_zero other : List Work) (s : State) (u : s.callers ≡ fs) (d r : ℕ) → length c ≤ base + d → 1 + entries_height s.entries ≤ r → Later at_zero (d - 1) r → Later other (d - 1) r → Keeps (on_flag c at_zero other s)
+    flag_keeps : (c : List ℕ) (at_zero other : List Work) (s : State) (u : s.callers ≡ fs) (d r : ℕ) → length c ≤ base + d → 1 + entries_height s.entries ≤ r →
+        Later at_zero (d - 1) r → Later other (d - 1) r → Keeps (on_flag c at_zero other s)
     flag_keeps [] a o s u d r h k l m = tt
     flag_keeps (zero ∷ c) a o s u d r h k l m = stays_later (record s { work = a; cells = c }) u (d - 1) r (omega (arith, h)) k l
     flag_keeps (suc n ∷ c) a o s u d r h k l m = stays_later (record s { work = o; cells = c }) u (d - 1) r (omega (arith, h)) k m

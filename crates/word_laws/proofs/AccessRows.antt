@@ -28,7 +28,9 @@ module _ (code : List ℕ) (base : List (Option ℕ)) (s : State) where
   -- an input byte that is taken
   key_row : (pc a : ℕ) (c : List ℕ) (da ra : List (Option ℕ)) (d b : ℤ) (n : ℕ) (space i p : List ℕ) (m : List Access) →
       RowMeans code (following pc) base (d +ℤ pos 0) (b +ℤ pos 0)
-      (with_outcome (effect pc (decoded 0x6C00)) (goes_on open_storage (effect pc (decoded 0x6C00)) (standing code pc (a ∷ c) (return_places s.entries base) da ra d b (world_of n space i p m)).core Asks) (standing code pc (a ∷ c) (return_places s.entries base) da ra d b (world_of n space i p m)))
+      (with_outcome (effect pc (decoded 0x6C00))
+      (goes_on open_storage (effect pc (decoded 0x6C00)) (standing code pc (a ∷ c) (return_places s.entries base) da ra d b (world_of n space i p m)).core
+      Asks) (standing code pc (a ∷ c) (return_places s.entries base) da ra d b (world_of n space i p m)))
       (on_cells (taken i (world_of n space i p m) ▸ λ x. Gives (x ∷ c)) s)
   key_row pc a c da ra d b n space [] p m = record { stop_is = refl; memory = refl; input = refl; printed = refl }
   key_row pc a c da ra d b n space (byte ∷ i) p m = (_, _, refl)
@@ -36,7 +38,9 @@ module _ (code : List ℕ) (base : List (Option ℕ)) (s : State) where
   module _ (o : World) (size : length code ≡ o.data_start / 2) where
     fetch_by_row : (x : Met) (pc a : ℕ) (c : List ℕ) (da ra : List (Option ℕ)) (d b : ℤ) → Fetches o.data_start x →
         RowMeans code (following pc) base (d +ℤ pos 0) (b +ℤ pos 0)
-        (with_outcome (effect pc (decoded 0x6C00)) (goes_on open_storage (effect pc (decoded 0x6C00)) (standing code pc (a ∷ c) (return_places s.entries base) da ra d b o).core (fetched open_storage (code ++ o.space) x)) (standing code pc (a ∷ c) (return_places s.entries base) da ra d b o))
+        (with_outcome (effect pc (decoded 0x6C00))
+        (goes_on open_storage (effect pc (decoded 0x6C00)) (standing code pc (a ∷ c) (return_places s.entries base) da ra d b o).core
+        (fetched open_storage (code ++ o.space) x)) (standing code pc (a ∷ c) (return_places s.entries base) da ra d b o))
         (on_cells (fetch_by o x ▸ λ v. Gives (v ∷ c)) s)
     fetch_by_row (met.Data i) pc a c da ra d b h =
         (da, ra, ap (λ v. standing code (following pc) (v ∷ c) (return_places s.entries base) da ra (d +ℤ pos 0) (b +ℤ pos 0) o) (get_or-append_right code o.space (o.data_start / 2) i 0 size h))
@@ -51,15 +55,27 @@ module _ (code : List ℕ) (base : List (Option ℕ)) (s : State) where
 
     store_by_row : (x : Met) (pc a v : ℕ) (c : List ℕ) (da ra : List (Option ℕ)) (d b : ℤ) → Stores o.data_start x →
         RowMeans code (following (following pc)) base (d +ℤ negsuc 0 +ℤ negsuc 0) (b +ℤ pos 0 +ℤ pos 0)
-        (feed o.data_start (decoded 0x6103 ∷ []) (with_outcome (effect pc (decoded 0x6023)) (goes_on open_storage (effect pc (decoded 0x6023)) (standing code pc (a ∷ v ∷ c) (return_places s.entries base) da ra d b o).core (stored open_storage (Some a) v (code ++ o.space) x)) (standing code pc (a ∷ v ∷ c) (return_places s.entries base) da ra d b o)))
+        (feed o.data_start (decoded 0x6103 ∷ [])
+        (with_outcome (effect pc (decoded 0x6023))
+        (goes_on open_storage (effect pc (decoded 0x6023)) (standing code pc (a ∷ v ∷ c) (return_places s.entries base) da ra d b o).core
+        (stored open_storage (Some a) v (code ++ o.space) x)) (standing code pc (a ∷ v ∷ c) (return_places s.entries base) da ra d b o)))
         (on_cells (store_by o v x ▸ λ _. Gives c) s)
-    store_by_row (met.Data i) pc a v c da ra d b h =
-        (_, _, ap (λ m. remembering m (standing code (following (following pc)) c (return_places s.entries base) (top_cell (data_places c) ∷ Some v ∷ da) ra (d +ℤ negsuc 0 +ℤ negsuc 0) (b +ℤ pos 0 +ℤ pos 0) o)) (set-append_right code o.space (o.data_start / 2) i v size h))
+    store_by_row (met.Data i) pc a v c da ra d b h = (
+      _,
+      _,
+      ap
+          (λ m.
+          remembering m
+          (standing code (following (following pc)) c (return_places s.entries base) (top_cell (data_places c) ∷ Some v ∷ da) ra
+          (d +ℤ negsuc 0 +ℤ negsuc 0) (b +ℤ pos 0 +ℤ pos 0) o)) (set-append_right code o.space (o.data_start / 2) i v size h),
+    )
     store_by_row met.Print pc a v c da ra d b h = (_, _, refl)
     store_by_row met.Halt pc a v c da ra d b h = record { stop_is = refl; memory = refl; input = refl; printed = refl }
     store_by_row (met.Outside address) pc a v c da ra d b h = record { stop_is = refl; memory = refl; input = refl; printed = refl }
     store_by_row met.Key pc a v c da ra d b h = absurd h
 
     pub store_row : (pc a v : ℕ) (c : List ℕ) (da ra : List (Option ℕ)) (d b : ℤ) →
-        RowMeans code (following (following pc)) base (d +ℤ negsuc 0 +ℤ negsuc 0) (b +ℤ pos 0 +ℤ pos 0) (feed o.data_start (decoded 0x6023 ∷ decoded 0x6103 ∷ []) (standing code pc (a ∷ v ∷ c) (return_places s.entries base) da ra d b o)) (on_cells (store a v o ▸ λ _. Gives c) s)
+        RowMeans code (following (following pc)) base (d +ℤ negsuc 0 +ℤ negsuc 0) (b +ℤ pos 0 +ℤ pos 0)
+        (feed o.data_start (decoded 0x6023 ∷ decoded 0x6103 ∷ []) (standing code pc (a ∷ v ∷ c) (return_places s.entries base) da ra d b o))
+        (on_cells (store a v o ▸ λ _. Gives c) s)
     store_row pc a v c da ra d b = store_by_row (access_at o.data_start true a) pc a v c da ra d b (stores o.data_start a)

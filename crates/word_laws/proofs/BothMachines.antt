@@ -15,7 +15,9 @@ use Rattle.j1_simulator.specs.declared.effects.Next.{Next}
 use Rattle.j1_simulator.specs.declared.effects.Next.TheVariants.{Following, Target, IfZero, Returning}
 use Rattle.j1_simulator.specs.declared.effects.Effect.{Effect}
 use Rattle.j1_simulator.specs.declared.effects.Output.{Output}
-use Rattle.j1_simulator.specs.Step.{Core, Stop, By, Missing, Reach, Reaches, Asks, Faults, Transition, Advances, Takes, Terminates, if_known, effect_at, fetched, stored, exchanged, accesses, operated, new_top_of, next_pc, data_after, return_after, depth_of, moved_on, goes_on, applied}
+use Rattle.j1_simulator.specs.Step.{Core, Stop, By, Missing, Reach, Reaches, Asks, Faults, Transition, Advances, Takes, Terminates, if_known, effect_at}
+use Rattle.j1_simulator.specs.Step.{fetched, stored, exchanged, accesses, operated, new_top_of, next_pc, data_after, return_after, depth_of, moved_on, goes_on}
+use Rattle.j1_simulator.specs.Step.{applied}
 use Rattle.j1_simulator.specs.OpenMachine.{Tape, top_cell, tape_moved, open_storage, both_known, blank}
 use Rattle.j1_simulator.specs.RoundMachine.{RingCells, around, ring_moved, ring_top, round_storage, empty_ring}
 use Rattle.j1_simulator.specs.Run.{Configuration, after_effect, advanced, run, begun, open_start, round_start, with_outcome, taken_on, printed_by, stop_of_output}
@@ -38,12 +40,14 @@ if_agrees : (b : Bool) (t n : Option ℕ) (x y : ℕ) → CellAgrees t x → Cel
 if_agrees true t n x y h k = h
 if_agrees false t n x y h k = k
 
-operated_agrees : (op : ℕ) (t n r c : Option ℕ) (t' n' r' c' depth : ℕ) → CellAgrees t t' → CellAgrees n n' → CellAgrees r r' → CellAgrees c c' → CellAgrees (operated open_storage op t n r c depth) (operated round_storage op t' n' r' c' depth)
+operated_agrees : (op : ℕ) (t n r c : Option ℕ) (t' n' r' c' depth : ℕ) → CellAgrees t t' → CellAgrees n n' → CellAgrees r r' → CellAgrees c c' →
+    CellAgrees (operated open_storage op t n r c depth) (operated round_storage op t' n' r' c' depth)
 operated_agrees op t n r c t' n' r' c' depth ht hn hr hc =
     if_agrees (op == 0) _ _ _ _ ht (if_agrees (op == 1) _ _ _ _ hn (if_agrees (op == 6) _ _ _ _ (one_agrees (on_t 6) t t' ht) (if_agrees (op == 10) _ _ _ _ (one_agrees (on_t 10) t t' ht)
     (if_agrees (op == 11) _ _ _ _ hr (if_agrees (op == 12) _ _ _ _ hc (if_agrees (op == 14) _ _ _ _ refl (two_agrees (on_t_and_n op) t n t' n' ht hn)))))))
 
-top_agrees : (a : NewTop) (t n r c : Option ℕ) (t' n' r' c' depth : ℕ) → CellAgrees t t' → CellAgrees n n' → CellAgrees r r' → CellAgrees c c' → CellAgrees (new_top_of open_storage a t n r c depth) (new_top_of round_storage a t' n' r' c' depth)
+top_agrees : (a : NewTop) (t n r c : Option ℕ) (t' n' r' c' depth : ℕ) → CellAgrees t t' → CellAgrees n n' → CellAgrees r r' → CellAgrees c c' →
+    CellAgrees (new_top_of open_storage a t n r c depth) (new_top_of round_storage a t' n' r' c' depth)
 top_agrees (Number v) t n r c t' n' r' c' depth ht hn hr hc = refl
 top_agrees (Operation op) t n r c t' n' r' c' depth ht hn hr hc = operated_agrees op t n r c t' n' r' c' depth ht hn hr hc
 
@@ -76,7 +80,8 @@ exchanged_agrees a v memory Halt = refl
 exchanged_agrees a v memory (Outside b) = refl
 exchanged_agrees a v memory Key = tt
 
-accesses_agrees : (data_start : ℕ) (f s : Bool) (memory : List ℕ) (t n : Option ℕ) (t' n' : ℕ) → CellAgrees t t' → CellAgrees n n' → SameReach (accesses open_storage data_start f s memory t n) (accesses round_storage data_start f s memory t' n')
+accesses_agrees : (data_start : ℕ) (f s : Bool) (memory : List ℕ) (t n : Option ℕ) (t' n' : ℕ) → CellAgrees t t' → CellAgrees n n' →
+    SameReach (accesses open_storage data_start f s memory t n) (accesses round_storage data_start f s memory t' n')
 accesses_agrees data_start false false memory t n t' n' h k = (h, refl, refl)
 accesses_agrees data_start true false memory None n t' n' h k = tt
 accesses_agrees data_start true false memory (Some a) n t' n' h k =
@@ -93,7 +98,8 @@ accesses_agrees data_start true true memory (Some a) (Some v) t' n' h k =
     (subst (λ w. SameReach (exchanged open_storage a v memory (access_at data_start true a)) (exchanged round_storage a w memory (access_at data_start true a))) k (exchanged_agrees a v memory (access_at data_start true a)))
 
 -- stacks
-data_agrees : (w : Bool) (move : ℤ) (t : Option ℕ) (x : ℕ) (tape : Tape) (ring : RingCells) → WritesAbove move w → CellAgrees t x → StackAgrees tape ring → KnownWithin 32 tape.below → StackAgrees (data_after open_storage w move t tape) (data_after round_storage w move x ring)
+data_agrees : (w : Bool) (move : ℤ) (t : Option ℕ) (x : ℕ) (tape : Tape) (ring : RingCells) → WritesAbove move w → CellAgrees t x → StackAgrees tape ring →
+    KnownWithin 32 tape.below → StackAgrees (data_after open_storage w move t tape) (data_after round_storage w move x ring)
 data_agrees false (pos zero) t x tape ring c k s h = still_agrees tape ring s
 data_agrees true (pos zero) t x tape ring c k s h = put_agrees (tape_moved (pos 0) tape) (ring_moved (pos 0) ring) t x k (still_agrees tape ring s)
 data_agrees false (pos (suc zero)) t x tape ring c k s h = absurd (false_true c)
@@ -108,7 +114,8 @@ data_agrees false (negsuc (suc zero)) t x tape ring c k s h = down_twice_agrees 
 data_agrees true (negsuc (suc zero)) t x tape ring c k s h = put_agrees (tape_moved (negsuc 1) tape) (ring_moved (negsuc 1) ring) t x k (down_twice_agrees tape ring s h)
 data_agrees w (negsuc (suc (suc n))) t x tape ring c k s h = absurd c
 
-return_agrees : (w : ReturnWrite) (move : ℤ) (t : Option ℕ) (x : ℕ) (tape : Tape) (ring : RingCells) → WritesAbove move (writes_return w) → CellAgrees t x → StackAgrees tape ring → KnownWithin 32 tape.below → StackAgrees (return_after open_storage w move t tape) (return_after round_storage w move x ring)
+return_agrees : (w : ReturnWrite) (move : ℤ) (t : Option ℕ) (x : ℕ) (tape : Tape) (ring : RingCells) → WritesAbove move (writes_return w) → CellAgrees t x →
+    StackAgrees tape ring → KnownWithin 32 tape.below → StackAgrees (return_after open_storage w move t tape) (return_after round_storage w move x ring)
 return_agrees Nothing move t x tape ring c k s h = data_agrees false move t x tape ring c k s h
 return_agrees OldTop move t x tape ring c k s h = data_agrees true move t x tape ring c k s h
 return_agrees (ReturnTo a) move t x tape ring c k s h = data_agrees true move (Some a) a tape ring c refl s h
@@ -133,7 +140,9 @@ SameOutcome (Takes f) (Takes f') = (byte : ℕ) → CoreAgrees (f byte) (f' byte
 SameOutcome _ _ = ⊥
 
 -- what both instructions change
-module _ (e : Effect) (c : Core (Option ℕ) Tape) (r : Core ℕ RingCells) (same : CoreAgrees c r) (low : KnownWithin 32 c.data_stack.below) (return_low : KnownWithin 32 c.return_stack.below) (covers : WritesAbove e.data_move e.t_to_n) (return_covers : WritesAbove e.return_move (writes_return e.return_write)) where
+module _ (e : Effect) (c : Core (Option ℕ) Tape) (r : Core ℕ RingCells) (same : CoreAgrees c r) (low : KnownWithin 32 c.data_stack.below)
+    (return_low : KnownWithin 32 c.return_stack.below) (covers : WritesAbove e.data_move e.t_to_n)
+    (return_covers : WritesAbove e.return_move (writes_return e.return_write)) where
   depths_same : depth_of open_storage c ≡ depth_of round_storage r
   depths_same = ap (λ b. b * 256 + around c.data_stack.at) (sym same.return_stack.at) ∙ ap (λ d. r.return_stack.at * 256 + d) (sym same.data_stack.at)
 
@@ -141,15 +150,24 @@ module _ (e : Effect) (c : Core (Option ℕ) Tape) (r : Core ℕ RingCells) (sam
   moved_agrees pc cell cell' memory memory' k m =
       record {
         pc = refl;
-        t = subst (λ d. CellAgrees (new_top_of open_storage e.new_top c.t (top_cell c.data_stack.below) (top_cell c.return_stack.below) cell (depth_of open_storage c)) (new_top_of round_storage e.new_top r.t (ring_top r.data_stack) (ring_top r.return_stack) cell' d)) depths_same
-            (top_agrees e.new_top c.t (top_cell c.data_stack.below) (top_cell c.return_stack.below) cell r.t (ring_top r.data_stack) (ring_top r.return_stack) cell' (depth_of open_storage c) same.t (tops_agrees _ _ same.data_stack) (tops_agrees _ _ same.return_stack) k);
+        t =
+            subst
+            (λ d.
+            CellAgrees
+            (new_top_of open_storage e.new_top c.t (top_cell c.data_stack.below) (top_cell c.return_stack.below) cell (depth_of open_storage c))
+            (new_top_of round_storage e.new_top r.t (ring_top r.data_stack) (ring_top r.return_stack) cell' d)) depths_same
+            (top_agrees e.new_top c.t (top_cell c.data_stack.below) (top_cell c.return_stack.below) cell r.t (ring_top r.data_stack) (ring_top r.return_stack)
+            cell' (depth_of open_storage c) same.t (tops_agrees _ _ same.data_stack) (tops_agrees _ _ same.return_stack) k);
         data_stack = data_agrees e.t_to_n e.data_move c.t r.t c.data_stack r.data_stack covers same.t same.data_stack low;
         return_stack = return_agrees e.return_write e.return_move c.t r.t c.return_stack r.return_stack return_covers same.t same.return_stack return_low;
         memory = m;
       }
 
   -- both go on at the same place, or the open machine misses it
-  goes_at : (x y : Option ℕ) (cell : Option ℕ) (cell' : ℕ) (memory memory' : List ℕ) (output output' : Output) → (x ≡ None) ⊎ (x ≡ y) → CellAgrees cell cell' → memory ≡ memory' → output ≡ output' → SameOutcome (if_known x (Terminates Missing) (λ pc. Advances (moved_on open_storage e c pc cell memory) output)) (if_known y (Terminates Missing) (λ pc. Advances (moved_on round_storage e r pc cell' memory') output'))
+  goes_at : (x y : Option ℕ) (cell : Option ℕ) (cell' : ℕ) (memory memory' : List ℕ) (output output' : Output) → (x ≡ None) ⊎ (x ≡ y) → CellAgrees cell cell' →
+      memory ≡ memory' → output ≡ output' →
+      SameOutcome (if_known x (Terminates Missing) (λ pc. Advances (moved_on open_storage e c pc cell memory) output))
+      (if_known y (Terminates Missing) (λ pc. Advances (moved_on round_storage e r pc cell' memory') output'))
   goes_at None y cell cell' memory memory' output output' h k m d = tt
   goes_at (Some p) None cell cell' memory memory' output output' h k m d = absurd (⊎_elim (λ q. some_none p q) (λ q. some_none p q) h)
     where
@@ -159,7 +177,9 @@ module _ (e : Effect) (c : Core (Option ℕ) Tape) (r : Core ℕ RingCells) (sam
       ⊎_elim (λ z. let f : ⊥ = cc in absurd f)
       (λ z. let pq : p ≡ q = cc in subst (λ q. SameOutcome (Advances (moved_on open_storage e c p cell memory) output) (Advances (moved_on round_storage e r q cell' memory') output')) pq (moved_agrees p cell cell' memory memory' k m, d)) h
 
-  takes_at : (x y : Option ℕ) → (x ≡ None) ⊎ (x ≡ y) → SameOutcome (if_known x (Terminates Missing) (λ pc. Takes (λ byte. moved_on open_storage e c pc (Some byte) c.memory))) (if_known y (Terminates Missing) (λ pc. Takes (λ byte. moved_on round_storage e r pc byte r.memory)))
+  takes_at : (x y : Option ℕ) → (x ≡ None) ⊎ (x ≡ y) →
+      SameOutcome (if_known x (Terminates Missing) (λ pc. Takes (λ byte. moved_on open_storage e c pc (Some byte) c.memory)))
+      (if_known y (Terminates Missing) (λ pc. Takes (λ byte. moved_on round_storage e r pc byte r.memory)))
   takes_at None y h = tt
   takes_at (Some p) None h = absurd (⊎_elim (λ q. some_none p q) (λ q. some_none p q) h)
     where
@@ -167,11 +187,19 @@ module _ (e : Effect) (c : Core (Option ℕ) Tape) (r : Core ℕ RingCells) (sam
       some_none p q = cc
   takes_at (Some p) (Some q) h =
       ⊎_elim (λ z. let f : ⊥ = cc in absurd f)
-      (λ z. let pq : p ≡ q = cc in subst (λ q. SameOutcome (Takes (λ byte. moved_on open_storage e c p (Some byte) c.memory)) (Takes (λ byte. moved_on round_storage e r q byte r.memory))) pq (λ byte. moved_agrees p (Some byte) byte c.memory r.memory refl same.memory)) h
+      (λ z.
+      let pq : p ≡ q =
+      cc in
+      subst
+      (λ q. SameOutcome (Takes (λ byte. moved_on open_storage e c p (Some byte) c.memory)) (Takes (λ byte. moved_on round_storage e r q byte r.memory)))
+      pq (λ byte. moved_agrees p (Some byte) byte c.memory r.memory refl same.memory)) h
 
   next_same : (next_pc open_storage e.next c.pc c.t (top_cell c.return_stack.below) ≡ None) ⊎ (next_pc open_storage e.next c.pc c.t (top_cell c.return_stack.below) ≡ next_pc round_storage e.next r.pc r.t (ring_top r.return_stack))
   next_same =
-      subst (λ pc. (next_pc open_storage e.next c.pc c.t (top_cell c.return_stack.below) ≡ None) ⊎ (next_pc open_storage e.next c.pc c.t (top_cell c.return_stack.below) ≡ next_pc round_storage e.next pc r.t (ring_top r.return_stack))) same.pc
+      subst
+      (λ pc.
+      (next_pc open_storage e.next c.pc c.t (top_cell c.return_stack.below) ≡ None)
+      ⊎ (next_pc open_storage e.next c.pc c.t (top_cell c.return_stack.below) ≡ next_pc round_storage e.next pc r.t (ring_top r.return_stack))) same.pc
       (next_agrees e.next c.pc c.t (top_cell c.return_stack.below) r.t (ring_top r.return_stack) same.t (tops_agrees _ _ same.return_stack))
 
   goes_agrees : (x : Reach (Option ℕ)) (y : Reach ℕ) → SameReach x y → SameOutcome (goes_on open_storage e c x) (goes_on round_storage e r y)
@@ -193,7 +221,8 @@ module _ (e : Effect) (c : Core (Option ℕ) Tape) (r : Core ℕ RingCells) (sam
       (accesses_agrees data_start e.fetches e.stores c.memory c.t (top_cell c.data_stack.below) r.t (ring_top r.data_stack) same.t (tops_agrees _ _ same.data_stack)))
 
 -- one instruction of a run
-outcome_agrees : (e : Effect) (o : Transition (Option ℕ) Tape) (o' : Transition ℕ RingCells) (w : OpenConfiguration) (r : RoundConfiguration) → w.stop ≡ r.stop → SameOutcome o o' → Agrees w r → (with_outcome e o w).stop ≢ Some Missing → Agrees (with_outcome e o w) (with_outcome e o' r)
+outcome_agrees : (e : Effect) (o : Transition (Option ℕ) Tape) (o' : Transition ℕ RingCells) (w : OpenConfiguration) (r : RoundConfiguration) →
+    w.stop ≡ r.stop → SameOutcome o o' → Agrees w r → (with_outcome e o w).stop ≢ Some Missing → Agrees (with_outcome e o w) (with_outcome e o' r)
 outcome_agrees e (Terminates Missing) o' w r st h a never = absurd (never refl)
 outcome_agrees e (Terminates (By end)) (Terminates s) w r st h a never = record { core = a.core; input = a.input; printed = a.printed; data_depth = a.data_depth; return_depth = a.return_depth; stop = ap Some h }
 outcome_agrees e (Terminates (By end)) (Advances c d) w r st h a never = absurd h
@@ -217,7 +246,9 @@ outcome_agrees e (Takes f) (Takes f') w r st h a never = subst (λ i. Agrees (ta
 outcome_agrees e (Takes f) (Terminates s) w r st h a never = absurd h
 outcome_agrees e (Takes f) (Advances c d) w r st h a never = absurd h
 
-made_agrees : (s : Option Stop) (data_start : ℕ) (w : OpenConfiguration) (r : RoundConfiguration) → w.stop ≡ s → Agrees w r → FitsRings w → (after_effect s open_storage data_start (effect_at w.core) w).stop ≢ Some Missing → Agrees (after_effect s open_storage data_start (effect_at w.core) w) (after_effect s round_storage data_start (effect_at r.core) r)
+made_agrees : (s : Option Stop) (data_start : ℕ) (w : OpenConfiguration) (r : RoundConfiguration) → w.stop ≡ s → Agrees w r → FitsRings w →
+    (after_effect s open_storage data_start (effect_at w.core) w).stop ≢ Some Missing →
+    Agrees (after_effect s open_storage data_start (effect_at w.core) w) (after_effect s round_storage data_start (effect_at r.core) r)
 made_agrees (Some stop) data_start w r e a p never = a
 made_agrees None data_start w r e a p never =
     subst (λ f. Agrees (after_effect None open_storage data_start (effect_at w.core) w) (after_effect None round_storage data_start f r)) same_effect
@@ -236,7 +267,8 @@ pub instruction_does_the_same : InstructionDoesTheSame
 instruction_does_the_same data_start w r a p never =
     subst (λ s. Agrees (advanced w.stop open_storage data_start w) (advanced s round_storage data_start r)) a.stop (made_agrees w.stop data_start w r refl a p never)
 
-run_agrees : (n data_start : ℕ) (w : OpenConfiguration) (r : RoundConfiguration) → Agrees w r → BeforeEach FitsRings data_start n w → (run open_storage data_start n w).stop ≢ Some Missing → Agrees (run open_storage data_start n w) (run round_storage data_start n r)
+run_agrees : (n data_start : ℕ) (w : OpenConfiguration) (r : RoundConfiguration) → Agrees w r → BeforeEach FitsRings data_start n w →
+    (run open_storage data_start n w).stop ≢ Some Missing → Agrees (run open_storage data_start n w) (run round_storage data_start n r)
 run_agrees zero data_start w r a p never = a
 run_agrees (suc n) data_start w r a p never =
     let next = advanced w.stop open_storage data_start w in

@@ -48,7 +48,8 @@ within_widens lo hi rlo rhi lo' hi' rlo' rhi' a b c d w s =
       return_writes = s.return_writes;
     }
 
-pub each_widens : (data_start lo hi rlo rhi lo' hi' rlo' rhi' n : ℕ) (w : OpenConfiguration) → lo' ≤ lo → hi ≤ hi' → rlo' ≤ rlo → rhi ≤ rhi' → BeforeEach (StaysWithin lo hi rlo rhi) data_start n w → BeforeEach (StaysWithin lo' hi' rlo' rhi') data_start n w
+pub each_widens : (data_start lo hi rlo rhi lo' hi' rlo' rhi' n : ℕ) (w : OpenConfiguration) → lo' ≤ lo → hi ≤ hi' → rlo' ≤ rlo → rhi ≤ rhi' →
+    BeforeEach (StaysWithin lo hi rlo rhi) data_start n w → BeforeEach (StaysWithin lo' hi' rlo' rhi') data_start n w
 each_widens data_start lo hi rlo rhi lo' hi' rlo' rhi' n w a b c d g =
     each_weaker (StaysWithin lo hi rlo rhi) (StaysWithin lo' hi' rlo' rhi') (λ w s. within_widens lo hi rlo rhi lo' hi' rlo' rhi' a b c d w s) n data_start w g
 
@@ -79,24 +80,32 @@ module _ (data_start : ℕ) (code : List ℕ) (size : length code ≡ data_start
         return_size = f;
       }
 
-  row_holds_at : (is : List Instr) (pc q : ℕ) (c : List ℕ) (r da ra : List (Option ℕ)) (o : World) (under k below j hi return_high : ℕ) → length c ≡ under + k → length r ≡ below + j → stays to_end hi return_high is k k j j ≡ true → HasAll code pc is q → RowHolds data_start code size to_end under below hi return_high is (standing_at_depths code pc c r da ra o)
+  row_holds_at : (is : List Instr) (pc q : ℕ) (c : List ℕ) (r da ra : List (Option ℕ)) (o : World) (under k below j hi return_high : ℕ) → length c ≡ under + k →
+      length r ≡ below + j → stays to_end hi return_high is k k j j ≡ true → HasAll code pc is q →
+      RowHolds data_start code size to_end under below hi return_high is (standing_at_depths code pc c r da ra o)
   row_holds_at is pc q c r da ra o under k below j hi return_high e f st has =
       row data_start code size to_end under below hi return_high is q k k j j (standing_at_depths code pc c r da ra o) None refl st has (o.space, refl) (counts_at pc c r da ra o under k below j e f)
 
   -- the counters at the end of a row
-  settled : (w : OpenConfiguration) (q : ℕ) (c : List ℕ) (r da ra : List (Option ℕ)) (d b : ℤ) (o : World) (under below k x j y : ℕ) → w ≡ standing code q c r da ra d b o → Counts under below k x j y w → w ≡ standing_at_depths code q c r da ra o
+  settled : (w : OpenConfiguration) (q : ℕ) (c : List ℕ) (r da ra : List (Option ℕ)) (d b : ℤ) (o : World) (under below k x j y : ℕ) →
+      w ≡ standing code q c r da ra d b o → Counts under below k x j y w → w ≡ standing_at_depths code q c r da ra o
   settled w q c r da ra d b o under below k x j y e s =
       let t : Counts under below k x j y (standing code q c r da ra d b o) = subst (Counts under below k x j y) e s in
       let dd : d ≡ pos (length c) = t.depth ∙ ap pos (sym t.size ∙ size_places c) in
       let bb : b ≡ pos (length r) = t.return_depth ∙ ap pos (sym t.return_size) in
       e ∙ ap (λ z. standing code q c r da ra z b o) dd ∙ ap (λ z. standing code q c r da ra (pos (length c)) z o) bb
 
-  pub row_stays : (is : List Instr) (pc q : ℕ) (c : List ℕ) (r da ra : List (Option ℕ)) (o : World) (under k below j hi return_high : ℕ) → length c ≡ under + k → length r ≡ below + j → stays to_end hi return_high is k k j j ≡ true → HasAll code pc is q → BeforeEach (StaysWithin under (under + hi) below (below + return_high)) data_start (length is) (standing_at_depths code pc c r da ra o)
+  pub row_stays : (is : List Instr) (pc q : ℕ) (c : List ℕ) (r da ra : List (Option ℕ)) (o : World) (under k below j hi return_high : ℕ) →
+      length c ≡ under + k → length r ≡ below + j → stays to_end hi return_high is k k j j ≡ true → HasAll code pc is q →
+      BeforeEach (StaysWithin under (under + hi) below (below + return_high)) data_start (length is) (standing_at_depths code pc c r da ra o)
   row_stays is pc q c r da ra o under k below j hi return_high e f st has = (row_holds_at is pc q c r da ra o under k below j hi return_high e f st has).1
 
   -- the end of a run that is ended, where the walk asks so of its end
-  pub row_ends : to_end ≡ true → (is : List Instr) (pc q : ℕ) (c : List ℕ) (r da ra : List (Option ℕ)) (o : World) (under k below j hi return_high : ℕ) (s : Stop) → length c ≡ under + k → length r ≡ below + j → stays to_end hi return_high is k k j j ≡ true → HasAll code pc is q →
-      (run open_storage data_start (length is) (standing_at_depths code pc c r da ra o)).stop ≡ Some s → StaysWithin under (under + hi) below (below + return_high) (run open_storage data_start (length is) (standing_at_depths code pc c r da ra o))
+  pub row_ends : to_end ≡ true →
+      (is : List Instr) (pc q : ℕ) (c : List ℕ) (r da ra : List (Option ℕ)) (o : World) (under k below j hi return_high : ℕ) (s : Stop) → length c ≡ under + k →
+      length r ≡ below + j → stays to_end hi return_high is k k j j ≡ true → HasAll code pc is q →
+      (run open_storage data_start (length is) (standing_at_depths code pc c r da ra o)).stop ≡ Some s →
+      StaysWithin under (under + hi) below (below + return_high) (run open_storage data_start (length is) (standing_at_depths code pc c r da ra o))
   row_ends t is pc q c r da ra o under k below j hi return_high s e f st has h =
       let rows = row_holds_at is pc q c r da ra o under k below j hi return_high e f st has in
       let u = rows.2 in
@@ -104,7 +113,8 @@ module _ (data_start : ℕ) (code : List ℕ) (size : length code ≡ data_start
       (within_stopped data_start code size to_end under below hi return_high u.0 u.1 u.2 u.3 (feed data_start is (standing_at_depths code pc c r da ra o)) s (ap (λ w. w.stop) (sym rows.0) ∙ h) (u.5 t) u.4)
 
   -- what is meant, at the end of a row
-  pub row_comes : (is : List Instr) (pc q : ℕ) (c : List ℕ) (r base da ra : List (Option ℕ)) (o : World) (under k below j hi return_high : ℕ) (x : Outcome) → length c ≡ under + k → length r ≡ below + j → stays to_end hi return_high is k k j j ≡ true → HasAll code pc is q →
+  pub row_comes : (is : List Instr) (pc q : ℕ) (c : List ℕ) (r base da ra : List (Option ℕ)) (o : World) (under k below j hi return_high : ℕ) (x : Outcome) →
+      length c ≡ under + k → length r ≡ below + j → stays to_end hi return_high is k k j j ≡ true → HasAll code pc is q →
       RowMeans code (past pc is) base (data_past (pos (length c)) is) (return_past (pos (length r)) is) (feed data_start is (standing_at_depths code pc c r da ra o)) x → MayEnd x →
       HasCome code q base (run open_storage data_start (length is) (standing_at_depths code pc c r da ra o)) x
   row_comes is pc q c r base da ra o under k below j hi return_high (Goes s) e f st has h m =

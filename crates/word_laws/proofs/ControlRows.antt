@@ -22,7 +22,8 @@ use Rattle.word_laws.proofs.CellRows.{height_places, height_length, has_all, row
 
 -- an instruction of a known effect
 leads : (data_start : ℕ) (i : Instr) (pc : ℕ) (code c : List ℕ) (r da ra : List (Option ℕ)) (o : World) (to : OpenConfiguration) → HoldsInstruction code pc i →
-    after_effect None open_storage data_start (effect pc i) (standing_at_depths code pc c r da ra o) ≡ to → WritesAbove (effect pc i).data_move (effect pc i).t_to_n → WritesAbove (effect pc i).return_move (writes_return (effect pc i).return_write) →
+    after_effect None open_storage data_start (effect pc i) (standing_at_depths code pc c r da ra o) ≡ to →
+    WritesAbove (effect pc i).data_move (effect pc i).t_to_n → WritesAbove (effect pc i).return_move (writes_return (effect pc i).return_write) →
     LeadsTo data_start (length c) (length r) (standing_at_depths code pc c r da ra o) to
 leads data_start i pc code c r da ra o to has e cd cb =
     let same : effect_at (standing_at_depths code pc c r da ra o).core ≡ effect pc i = effect_here code (standing_at_depths code pc c r da ra o) i (o.space, refl) has.0 has.1 in

@@ -46,7 +46,9 @@ height_first (suc zero) [] k = tt
 height_first (suc (suc h)) [] k = tt
 height_first h (c ∷ cells) k = k
 
-pub data_moves : (pop writes : Bool) (move : ℤ) (r x x' : ℕ) (t v : Option ℕ) (tape : Tape) → data_height pop writes move x ≡ Some x' → (pop ≡ true → v ≡ top_cell tape.below) → KnownWithin (r + x) (t ∷ tape.below) → KnownWithin (r + x') (v ∷ (data_after open_storage writes move t tape).below)
+pub data_moves : (pop writes : Bool) (move : ℤ) (r x x' : ℕ) (t v : Option ℕ) (tape : Tape) → data_height pop writes move x ≡ Some x' →
+    (pop ≡ true → v ≡ top_cell tape.below) → KnownWithin (r + x) (t ∷ tape.below) →
+    KnownWithin (r + x') (v ∷ (data_after open_storage writes move t tape).below)
 data_moves pop true (pos (suc zero)) r x x' t v tape e n h =
     let q : suc x ≡ x' = cc in height_le (suc (r + x)) (r + x') (v ∷ t ∷ tape.below) (omega arith) (height_cons (r + x) v (t ∷ tape.below) h)
 data_moves true true (pos zero) r x x' t v tape e n h = stay_write r x x' t v tape (some_is (max 2 x) x' e) h
@@ -89,7 +91,8 @@ writes_move false (pos zero) r y y' t tape e h = let q : y ≡ y' = cc in height
 writes_move false (negsuc zero) r y y' t tape e h = let q : pred y ≡ y' = cc in height_le (pred (r + y)) (r + y') (rest tape.below) (omega arith) (height_rest (r + y) tape.below h)
 writes_move writes move r y y' t tape e h = let q : None ≡ Some y' = e in cc
 
-pub return_moves : (w : ReturnWrite) (move : ℤ) (r y y' : ℕ) (t : Option ℕ) (tape : Tape) → return_height (writes_return w) move y ≡ Some y' → KnownWithin (r + y) tape.below → KnownWithin (r + y') (return_after open_storage w move t tape).below
+pub return_moves : (w : ReturnWrite) (move : ℤ) (r y y' : ℕ) (t : Option ℕ) (tape : Tape) → return_height (writes_return w) move y ≡ Some y' →
+    KnownWithin (r + y) tape.below → KnownWithin (r + y') (return_after open_storage w move t tape).below
 return_moves Nothing move r y y' t tape e h = writes_move false move r y y' t tape e h
 return_moves OldTop move r y y' t tape e h = writes_move true move r y y' t tape e h
 return_moves (ReturnTo a) move r y y' t tape e h = writes_move true move r y y' (Some a) tape e h
@@ -114,7 +117,9 @@ size_rest : (cells : List (Option ℕ)) (n : ℕ) → length cells ≡ suc n →
 size_rest [] n e = omega arith
 size_rest (c ∷ cells) n e = omega arith
 
-pub size_moves : (writes : Bool) (move : ℤ) (r k k' : ℕ) (y y' : ℕ) (t : Option ℕ) (tape : Tape) → return_height writes move y ≡ Some y' → counted_to move k ≡ Some k' → has_place writes move k ≡ true → length tape.below ≡ r + k → length (data_after open_storage writes move t tape).below ≡ r + k'
+pub size_moves : (writes : Bool) (move : ℤ) (r k k' : ℕ) (y y' : ℕ) (t : Option ℕ) (tape : Tape) → return_height writes move y ≡ Some y' →
+    counted_to move k ≡ Some k' → has_place writes move k ≡ true → length tape.below ≡ r + k →
+    length (data_after open_storage writes move t tape).below ≡ r + k'
 size_moves true (pos (suc zero)) r k k' y y' t tape h e p s = let q : k + 1 ≡ k' = cc in omega (arith, s)
 size_moves true (pos zero) r zero k' y y' t tape h e p s = cc
 size_moves true (pos zero) r (suc k) k' y y' t tape h e p s = let q : suc k + 0 ≡ k' = cc in omega (arith, size_rest tape.below (r + k) (omega (arith, s)))
@@ -135,7 +140,9 @@ as_return false false (negsuc zero) x x' e = (_, refl)
 as_return true writes move x x' e = let q : None ≡ Some x' = e in cc
 as_return false writes move x x' e = let q : None ≡ Some x' = e in cc
 
-pub return_size_moves : (w : ReturnWrite) (move : ℤ) (r k k' y y' : ℕ) (t : Option ℕ) (tape : Tape) → return_height (writes_return w) move y ≡ Some y' → counted_to move k ≡ Some k' → has_place (writes_return w) move k ≡ true → length tape.below ≡ r + k → length (return_after open_storage w move t tape).below ≡ r + k'
+pub return_size_moves : (w : ReturnWrite) (move : ℤ) (r k k' y y' : ℕ) (t : Option ℕ) (tape : Tape) → return_height (writes_return w) move y ≡ Some y' →
+    counted_to move k ≡ Some k' → has_place (writes_return w) move k ≡ true → length tape.below ≡ r + k →
+    length (return_after open_storage w move t tape).below ≡ r + k'
 return_size_moves Nothing move r k k' y y' t tape h e p s = size_moves false move r k k' y y' t tape h e p s
 return_size_moves OldTop move r k k' y y' t tape h e p s = size_moves true move r k k' y y' t tape h e p s
 return_size_moves (ReturnTo a) move r k k' y y' t tape h e p s = size_moves true move r k k' y y' (Some a) tape h e p s

@@ -88,7 +88,12 @@ pub words_keep_their_bounds : WordsKeepTheirBounds
 words_keep_their_bounds word code pc next s base da ra r =
     let c = parts (entry_of word).need (length s.cells) r.need in
     let b = parts (return_need word) (length (return_places s.entries base)) (return_places_found word s.entries base r.finds) in
-    subst (λ n. BeforeEach (StaysWithin (length s.cells - (entry_of word).need) (length s.cells + (entry_of word).peak) (length (return_places s.entries base) - return_need word) (length (return_places s.entries base) + (entry_of word).back)) s.world.data_start n (standing_as s code pc base da ra)) (as_many s.world.data_start word)
+    subst
+    (λ n.
+    BeforeEach
+    (StaysWithin (length s.cells - (entry_of word).need) (length s.cells + (entry_of word).peak)
+    (length (return_places s.entries base) - return_need word) (length (return_places s.entries base) + (entry_of word).back)) s.world.data_start n
+    (standing_as s code pc base da ra)) (as_many s.world.data_start word)
     (each_widens s.world.data_start _ _ _ _ _ _ _ _ (length (instructions_of s.world.data_start word)) (standing_as s code pc base da ra) (omega arith) (omega (arith, c)) (omega arith) (omega (arith, b))
     (row_stays s.world.data_start code r.code_size false (instructions_of s.world.data_start word) pc next s.cells (return_places s.entries base) da ra s.world
     (length s.cells - (entry_of word).need) (entry_of word).need (length (return_places s.entries base) - return_need word) (return_need word)
@@ -104,7 +109,11 @@ words_end_within_bounds p word code pc next s base da ra end world r ends =
     let w = standing_as s code pc base da ra in
     let come = subst (HasCome code next base (run open_storage s.world.data_start (length (cells_of word)) w)) ends (words_do_their_meaning p word code pc next s base da ra r) in
     let many = as_many s.world.data_start word in
-    subst (λ n. StaysWithin (length s.cells - (entry_of word).need) (length s.cells + (entry_of word).peak) (length (return_places s.entries base) - return_need word) (length (return_places s.entries base) + (entry_of word).back) (run open_storage s.world.data_start n w)) many
+    subst
+    (λ n.
+    StaysWithin (length s.cells - (entry_of word).need) (length s.cells + (entry_of word).peak)
+    (length (return_places s.entries base) - return_need word) (length (return_places s.entries base) + (entry_of word).back)
+    (run open_storage s.world.data_start n w)) many
     (within_widens _ _ _ _ _ _ _ _ (omega arith) (omega (arith, c)) (omega arith) (omega (arith, b)) (run open_storage s.world.data_start (length (instructions_of s.world.data_start word)) w)
     (row_ends s.world.data_start code r.code_size true refl (instructions_of s.world.data_start word) pc next s.cells (return_places s.entries base) da ra s.world
     (length s.cells - (entry_of word).need) (entry_of word).need (length (return_places s.entries base) - return_need word) (return_need word)

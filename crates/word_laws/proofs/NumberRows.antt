@@ -39,7 +39,10 @@ inverted_twice value h = omega arith
 
 -- a number on the data cells
 number_row : (small : Bool) (value : ℕ) → value < 0x10000 → (data_start : ℕ) (code : List ℕ) (pc : ℕ) (c : List ℕ) (r da ra : List (Option ℕ)) (d b : ℤ) (o : World) →
-    (da' : List (Option ℕ)) × (ra' : List (Option ℕ)) × (feed data_start (number_instructions small value) (standing code pc c r da ra d b o) ≡ standing code (past pc (number_instructions small value)) (value ∷ c) r da' ra' (data_past d (number_instructions small value)) (return_past b (number_instructions small value)) o)
+    (da' : List (Option ℕ)) × (ra' : List (Option ℕ))
+    × (feed data_start (number_instructions small value) (standing code pc c r da ra d b o)
+    ≡ standing code (past pc (number_instructions small value)) (value ∷ c) r da' ra' (data_past d (number_instructions small value))
+    (return_past b (number_instructions small value)) o)
 number_row true value h data_start code pc [] r da ra d b o = (_, _, refl)
 number_row true value h data_start code pc (y ∷ c) r da ra d b o = (_, _, refl)
 number_row false value h data_start code pc [] r da ra d b o =
@@ -62,7 +65,10 @@ numbers_do_their_meaning p after value code pc next s base da ra r =
 pub numbers_keep_their_bounds : NumbersKeepTheirBounds
 numbers_keep_their_bounds value code pc next s base da ra r =
     let small = nat_lt value 0x8000 in
-    subst (λ n. BeforeEach (StaysWithin (length s.cells) (length s.cells + 1) (length (return_places s.entries base)) (length (return_places s.entries base))) s.world.data_start n (standing_as s code pc base da ra)) (number_size small value)
+    subst
+    (λ n.
+    BeforeEach (StaysWithin (length s.cells) (length s.cells + 1) (length (return_places s.entries base)) (length (return_places s.entries base)))
+    s.world.data_start n (standing_as s code pc base da ra)) (number_size small value)
     (each_widens s.world.data_start _ _ _ _ _ _ _ _ (length (number_instructions small value)) (standing_as s code pc base da ra) (omega arith) (omega arith) (omega arith) (omega arith)
     (row_stays s.world.data_start code r.code_size false (number_instructions small value) pc next s.cells (return_places s.entries base) da ra s.world
     (length s.cells) 0 (length (return_places s.entries base)) 0 1 0

@@ -80,7 +80,9 @@ down_twice_agrees tape ring s h =
       low = omega (arith, a);
       cells = λ j lt. ⊎_elim
           (λ small. is_or_none _ _ _ _ (sym (nth_rest tape.below (suc j)) ∙ sym (nth_rest (rest tape.below) j)) (ap (slice_index ring.cells) (omega (arith, a, s.low))) (s.cells (suc (suc j)) small))
-          (λ last. subst (λ x. CellAgrees x (slice_index ring.cells (place_below j (ring_moved (negsuc 1) ring)))) (sym (none_at 32 tape.below (suc (suc j)) h last) ∙ sym (nth_rest tape.below (suc j)) ∙ sym (nth_rest (rest tape.below) j)) tt)
+          (λ last.
+          subst (λ x. CellAgrees x (slice_index ring.cells (place_below j (ring_moved (negsuc 1) ring))))
+          (sym (none_at 32 tape.below (suc (suc j)) h last) ∙ sym (nth_rest tape.below (suc j)) ∙ sym (nth_rest (rest tape.below) j)) tt)
           (cases_lt (suc (suc j)) 32);
     }
 
@@ -116,8 +118,13 @@ up_agrees tape ring c x k s =
       cells = cells a;
     }
   where
-    cells : around (pos ring.at +ℤ pos 1) ≡ (ring.at + 1) % 32 → (j : ℕ) → j < 32 → CellAgrees (get_or (c ∷ tape.below) j None) (slice_index (slice_set ring.cells (around (pos ring.at +ℤ pos 1)) x) ((around (pos ring.at +ℤ pos 1) + 32 - j) % 32))
-    cells a zero lt = is_or_none _ _ _ _ refl (sym (get_or-set_same ring.cells (around (pos ring.at +ℤ pos 1)) x 0 (omega (arith, a, s.low, s.size))) ∙ ap (slice_index (slice_set ring.cells (around (pos ring.at +ℤ pos 1)) x)) (omega (arith, a, s.low))) k
+    cells : around (pos ring.at +ℤ pos 1) ≡ (ring.at + 1) % 32 → (j : ℕ) → j < 32 →
+        CellAgrees (get_or (c ∷ tape.below) j None)
+        (slice_index (slice_set ring.cells (around (pos ring.at +ℤ pos 1)) x) ((around (pos ring.at +ℤ pos 1) + 32 - j) % 32))
+    cells a zero lt =
+        is_or_none _ _ _ _ refl
+        (sym (get_or-set_same ring.cells (around (pos ring.at +ℤ pos 1)) x 0 (omega (arith, a, s.low, s.size)))
+        ∙ ap (slice_index (slice_set ring.cells (around (pos ring.at +ℤ pos 1)) x)) (omega (arith, a, s.low))) k
     cells a (suc j) lt =
         is_or_none _ _ _ _ refl
         (ap (slice_index ring.cells) (omega (arith, a, s.low, lt)) ∙ sym (get_or-set_other ring.cells (around (pos ring.at +ℤ pos 1)) ((around (pos ring.at +ℤ pos 1) + 32 - suc j) % 32) x 0 (λ e. omega (arith, a, s.low, e, lt))))

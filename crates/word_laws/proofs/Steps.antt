@@ -75,11 +75,15 @@ taken_moves : (data_start pc : ℕ) (e : Effect) (w : OpenConfiguration) (i : Li
 taken_moves data_start pc e w [] = inl (By ends.InputEnded, refl)
 taken_moves data_start pc e w (byte ∷ i) = inr (record { cell = Some byte; memory = w.core.memory; kept = inl refl; core = refl; data_depth = refl; return_depth = refl })
 
-goes_moves : (data_start : ℕ) (e : Effect) (w : OpenConfiguration) (p : Option ℕ) (cell : Option ℕ) (memory : List ℕ) (output : Output) → Kept data_start w.core.memory memory → EndsOrMoves data_start p e w (with_outcome e (if_known p (Terminates Missing) (λ pc. Advances (moved_on open_storage e w.core pc cell memory) output)) w)
+goes_moves : (data_start : ℕ) (e : Effect) (w : OpenConfiguration) (p : Option ℕ) (cell : Option ℕ) (memory : List ℕ) (output : Output) →
+    Kept data_start w.core.memory memory →
+    EndsOrMoves data_start p e w (with_outcome e (if_known p (Terminates Missing) (λ pc. Advances (moved_on open_storage e w.core pc cell memory) output)) w)
 goes_moves data_start e w None cell memory output k = (Missing, refl)
 goes_moves data_start e w (Some pc) cell memory output k = inr (record { cell = cell; memory = memory; kept = k; core = refl; data_depth = refl; return_depth = refl })
 
-asks_moves : (data_start : ℕ) (e : Effect) (w : OpenConfiguration) (p : Option ℕ) → EndsOrMoves data_start p e w (with_outcome e (if_known p (Terminates Missing) (λ pc. Takes (λ byte. moved_on open_storage e w.core pc (Some byte) w.core.memory))) w)
+asks_moves : (data_start : ℕ) (e : Effect) (w : OpenConfiguration) (p : Option ℕ) →
+    EndsOrMoves data_start p e w
+    (with_outcome e (if_known p (Terminates Missing) (λ pc. Takes (λ byte. moved_on open_storage e w.core pc (Some byte) w.core.memory))) w)
 asks_moves data_start e w None = (Missing, refl)
 asks_moves data_start e w (Some pc) = taken_moves data_start pc e w w.input
 
@@ -87,7 +91,9 @@ stops_moves : (data_start : ℕ) (e : Effect) (w : OpenConfiguration) (p : Optio
 stops_moves data_start e w None s = (s, refl)
 stops_moves data_start e w (Some pc) s = inl (s, refl)
 
-reach_moves : (data_start : ℕ) (e : Effect) (w : OpenConfiguration) (x : Reach (Option ℕ)) → KeptBy data_start w.core.memory x → EndsOrMoves data_start (next_pc open_storage e.next w.core.pc w.core.t (top_cell w.core.return_stack.below)) e w (with_outcome e (goes_on open_storage e w.core x) w)
+reach_moves : (data_start : ℕ) (e : Effect) (w : OpenConfiguration) (x : Reach (Option ℕ)) → KeptBy data_start w.core.memory x →
+    EndsOrMoves data_start (next_pc open_storage e.next w.core.pc w.core.t (top_cell w.core.return_stack.below)) e w
+    (with_outcome e (goes_on open_storage e w.core x) w)
 reach_moves data_start e w (Faults s) k = stops_moves data_start e w _ s
 reach_moves data_start e w (Reaches cell memory output) k = goes_moves data_start e w _ cell memory output k
 reach_moves data_start e w Asks k = asks_moves data_start e w _

@@ -42,7 +42,9 @@ each_weaker P Q f zero data_start w p = tt
 each_weaker P Q f (suc n) data_start w p = (f w p.0, each_weaker P Q f n data_start (advanced w.stop open_storage data_start w) p.1)
 
 -- what of an effect no place changes, by one property of all of it
-fields : (P : Effect → Effect → Type 0) (pc : ℕ) (i : Instr) → ((v : ℕ) → P (effect pc (Literal v)) (effect 0 (Literal v))) → ((v : ℕ) → P (effect pc (Jump v)) (effect 0 (Jump v))) → ((v : ℕ) → P (effect pc (Branch v)) (effect 0 (Branch v))) → ((v : ℕ) → P (effect pc (Call v)) (effect 0 (Call v))) → ((v : ℕ) → P (effect pc (Alu v)) (effect 0 (Alu v))) → P (effect pc i) (effect 0 i)
+fields : (P : Effect → Effect → Type 0) (pc : ℕ) (i : Instr) → ((v : ℕ) → P (effect pc (Literal v)) (effect 0 (Literal v))) →
+    ((v : ℕ) → P (effect pc (Jump v)) (effect 0 (Jump v))) → ((v : ℕ) → P (effect pc (Branch v)) (effect 0 (Branch v))) →
+    ((v : ℕ) → P (effect pc (Call v)) (effect 0 (Call v))) → ((v : ℕ) → P (effect pc (Alu v)) (effect 0 (Alu v))) → P (effect pc i) (effect 0 i)
 fields P pc (Literal v) a b c d e = a v
 fields P pc (Jump v) a b c d e = b v
 fields P pc (Branch v) a b c d e = c v
@@ -120,8 +122,19 @@ record WalkStep (hi return_high : ℕ) (e : Effect) (on : ℕ → ℕ → ℕ �
 
 walk_step : (hi return_high : ℕ) (e : Effect) (on : ℕ → ℕ → ℕ → ℕ → Bool) (k x j y : ℕ) → checked hi return_high e on k x j y ≡ true → WalkStep hi return_high e on k x j y
 walk_step hi return_high e on k x j y h =
-    let e1 = and_split (nat_le k hi) (nat_le x hi && (nat_le j return_high && (nat_le y return_high && (is_following e.next && (has_place e.t_to_n e.data_move k && (has_place (writes_return e.return_write) e.return_move j && depth_to e on k x j y)))))) h in
-    let e2 = and_split (nat_le x hi) (nat_le j return_high && (nat_le y return_high && (is_following e.next && (has_place e.t_to_n e.data_move k && (has_place (writes_return e.return_write) e.return_move j && depth_to e on k x j y))))) e1.1 in
+    let e1 =
+    and_split (nat_le k hi)
+    (nat_le x hi
+    && (nat_le j return_high
+    && (nat_le y return_high
+    && (is_following e.next
+    && (has_place e.t_to_n e.data_move k && (has_place (writes_return e.return_write) e.return_move j && depth_to e on k x j y)))))) h in
+    let e2 =
+    and_split (nat_le x hi)
+    (nat_le j return_high
+    && (nat_le y return_high
+    && (is_following e.next
+    && (has_place e.t_to_n e.data_move k && (has_place (writes_return e.return_write) e.return_move j && depth_to e on k x j y))))) e1.1 in
     let e3 = and_split (nat_le j return_high) (nat_le y return_high && (is_following e.next && (has_place e.t_to_n e.data_move k && (has_place (writes_return e.return_write) e.return_move j && depth_to e on k x j y)))) e2.1 in
     let e4 = and_split (nat_le y return_high) (is_following e.next && (has_place e.t_to_n e.data_move k && (has_place (writes_return e.return_write) e.return_move j && depth_to e on k x j y))) e3.1 in
     let e5 = and_split (is_following e.next) (has_place e.t_to_n e.data_move k && (has_place (writes_return e.return_write) e.return_move j && depth_to e on k x j y)) e4.1 in
@@ -166,20 +179,28 @@ placed hi return_high e f on k x j y same o =
       on_is = o.on_is;
     }
 
-moved_counts : (data_start pc r b k x j y k' x' j' y' : ℕ) (f : Effect) (w now : OpenConfiguration) → Moves data_start pc f w now → counted_to f.data_move k ≡ Some k' → data_height (pops f.new_top) f.t_to_n f.data_move x ≡ Some x' → counted_to f.return_move j ≡ Some j' → return_height (writes_return f.return_write) f.return_move y ≡ Some y' → has_place f.t_to_n f.data_move k ≡ true → has_place (writes_return f.return_write) f.return_move j ≡ true → Counts r b k x j y w → Counts r b k' x' j' y' now
+moved_counts : (data_start pc r b k x j y k' x' j' y' : ℕ) (f : Effect) (w now : OpenConfiguration) → Moves data_start pc f w now →
+    counted_to f.data_move k ≡ Some k' → data_height (pops f.new_top) f.t_to_n f.data_move x ≡ Some x' → counted_to f.return_move j ≡ Some j' →
+    return_height (writes_return f.return_write) f.return_move y ≡ Some y' → has_place f.t_to_n f.data_move k ≡ true →
+    has_place (writes_return f.return_write) f.return_move j ≡ true → Counts r b k x j y w → Counts r b k' x' j' y' now
 moved_counts data_start pc r b k x j y k' x' j' y' f w now m ck hx cj hy pl bpl stand =
     record {
       depth = m.data_depth ∙ ap (λ a. a +ℤ f.data_move) stand.depth ∙ counter_moves f.data_move r k k' ck;
       return_depth = m.return_depth ∙ ap (λ a. a +ℤ f.return_move) stand.return_depth ∙ counter_moves f.return_move b j j' cj;
       known = subst (λ a. KnownWithin (r + x') (a.t ∷ a.data_stack.below)) (sym m.core)
-          (data_moves (pops f.new_top) f.t_to_n f.data_move r x x' w.core.t _ w.core.data_stack hx (pop_takes f.new_top w.core.t (top_cell w.core.data_stack.below) (top_cell w.core.return_stack.below) m.cell (depth_of open_storage w.core)) stand.known);
+          (data_moves (pops f.new_top) f.t_to_n f.data_move r x x' w.core.t _ w.core.data_stack hx
+          (pop_takes f.new_top w.core.t (top_cell w.core.data_stack.below) (top_cell w.core.return_stack.below) m.cell (depth_of open_storage w.core))
+          stand.known);
       return_known = subst (λ a. KnownWithin (b + y') a.return_stack.below) (sym m.core) (return_moves f.return_write f.return_move b y y' w.core.t w.core.return_stack hy stand.return_known);
       size = ap (λ a. length a.data_stack.below) m.core ∙ (let z = as_return (pops f.new_top) f.t_to_n f.data_move x x' hx in size_moves f.t_to_n f.data_move r k k' x z.0 w.core.t w.core.data_stack z.1 ck pl stand.size);
       return_size = ap (λ a. length a.return_stack.below) m.core ∙ return_size_moves f.return_write f.return_move b j j' y y' w.core.t w.core.return_stack hy cj bpl stand.return_size;
     }
 
 module _ (data_start : ℕ) (code : List ℕ) (size : length code ≡ data_start / 2) (to_end : Bool) (r b hi return_high : ℕ) where
-  within : (k x j y : ℕ) (w : OpenConfiguration) → Limits hi return_high k x j y → Counts r b k x j y w → (w.stop ≡ None → WritesAbove (effect_at w.core).data_move (effect_at w.core).t_to_n) → (w.stop ≡ None → WritesAbove (effect_at w.core).return_move (writes_return (effect_at w.core).return_write)) → StaysWithin r (r + hi) b (b + return_high) w
+  within : (k x j y : ℕ) (w : OpenConfiguration) → Limits hi return_high k x j y → Counts r b k x j y w →
+      (w.stop ≡ None → WritesAbove (effect_at w.core).data_move (effect_at w.core).t_to_n) →
+      (w.stop ≡ None → WritesAbove (effect_at w.core).return_move (writes_return (effect_at w.core).return_write)) →
+      StaysWithin r (r + hi) b (b + return_high) w
   within k x j y w l s c d =
       record {
         depth = r + k;
@@ -219,11 +240,16 @@ module _ (data_start : ℕ) (code : List ℕ) (size : length code ≡ data_start
       (λ n. subst (λ g. WritesAbove g.return_move (writes_return g.return_write)) (sym same) (return_covers (writes_return e.return_write) e.return_move y o.y' o.height_return))
 
   -- one cell in front of a row whose rest is known
-  cons_row : (c : Instr) (cells : List Instr) (f : Effect) (w now : OpenConfiguration) → advanced w.stop open_storage data_start w ≡ now → feed data_start (c ∷ cells) w ≡ feed data_start cells now → StaysWithin r (r + hi) b (b + return_high) w → RowHolds cells now → RowHolds (c ∷ cells) w
-  cons_row c cells f w now goes fed here on =
-      (ap (run open_storage data_start (length cells)) goes ∙ on.0 ∙ sym fed, (here, subst (BeforeEach (StaysWithin r (r + hi) b (b + return_high)) data_start (length cells)) (sym goes) on.1), (on.2.0, on.2.1, on.2.2, on.2.3, subst (Counts r b on.2.0 on.2.1 on.2.2 on.2.3) (sym fed) on.2.4, on.2.5))
+  cons_row : (c : Instr) (cells : List Instr) (f : Effect) (w now : OpenConfiguration) → advanced w.stop open_storage data_start w ≡ now →
+      feed data_start (c ∷ cells) w ≡ feed data_start cells now → StaysWithin r (r + hi) b (b + return_high) w → RowHolds cells now → RowHolds (c ∷ cells) w
+  cons_row c cells f w now goes fed here on = (
+    ap (run open_storage data_start (length cells)) goes ∙ on.0 ∙ sym fed,
+    (here, subst (BeforeEach (StaysWithin r (r + hi) b (b + return_high)) data_start (length cells)) (sym goes) on.1),
+    (on.2.0, on.2.1, on.2.2, on.2.3, subst (Counts r b on.2.0 on.2.1 on.2.2 on.2.3) (sym fed) on.2.4, on.2.5),
+  )
 
-  pub row : (cells : List Instr) (q k x j y : ℕ) (w : OpenConfiguration) (stop : Option Stop) → w.stop ≡ stop → stays to_end hi return_high cells k x j y ≡ true → HasAll code w.core.pc cells q → HasCode code w → Counts r b k x j y w → RowHolds cells w
+  pub row : (cells : List Instr) (q k x j y : ℕ) (w : OpenConfiguration) (stop : Option Stop) → w.stop ≡ stop →
+      stays to_end hi return_high cells k x j y ≡ true → HasAll code w.core.pc cells q → HasCode code w → Counts r b k x j y w → RowHolds cells w
   row [] q k x j y w stop e st has bk stand = (refl, tt, (k, x, j, y, stand, λ t. limits_of hi return_high k x j y (subst (λ a. stays a hi return_high [] k x j y ≡ true) t st)))
   row (c ∷ cells) q k x j y w (Some s) e st has bk stand = stopped_row (c ∷ cells) k x j y w s e (walk_step hi return_high (effect 0 c) (stays to_end hi return_high cells) k x j y st).limits stand
   row (c ∷ cells) q k x j y w None e st has bk stand =
@@ -235,12 +261,24 @@ module _ (data_start : ℕ) (code : List ℕ) (size : length code ≡ data_start
       (made_moves data_start (effect w.core.pc c) w)
       (λ now k' x' j' y' s' h' b' t'. row cells q k' x' j' y' now now.stop refl s' h' b' t')
     where
-      step : (f : Effect) (now : OpenConfiguration) → effect_at w.core ≡ f → advanced w.stop open_storage data_start w ≡ now → feed data_start (c ∷ cells) w ≡ feed data_start cells now → WalkStep hi return_high f (stays to_end hi return_high cells) k x j y → EndsOrMoves data_start (next_pc open_storage f.next w.core.pc w.core.t (top_cell w.core.return_stack.below)) f w now
+      step : (f : Effect) (now : OpenConfiguration) → effect_at w.core ≡ f → advanced w.stop open_storage data_start w ≡ now →
+          feed data_start (c ∷ cells) w ≡ feed data_start cells now → WalkStep hi return_high f (stays to_end hi return_high cells) k x j y →
+          EndsOrMoves data_start (next_pc open_storage f.next w.core.pc w.core.t (top_cell w.core.return_stack.below)) f w now
           → ((now : OpenConfiguration) (k x j y : ℕ) → stays to_end hi return_high cells k x j y ≡ true → HasAll code now.core.pc cells q → HasCode code now → Counts r b k x j y now → RowHolds cells now) → RowHolds (c ∷ cells) w
       step f now same goes fed o found later =
           cons_row c cells f w now goes fed (covered k x j y f w (stays to_end hi return_high cells) same o stand)
           (⊎_elim
-          (λ t. subst (RowHolds cells) (sym t.1) (stopped_row cells k x j y (record w { stop = Some t.0 }) t.0 refl o.limits (record { depth = stand.depth; return_depth = stand.return_depth; known = stand.known; return_known = stand.return_known; size = stand.size; return_size = stand.return_size })))
+          (λ t.
+          subst (RowHolds cells) (sym t.1)
+          (stopped_row cells k x j y (record w { stop = Some t.0 }) t.0 refl o.limits
+          (record {
+            depth = stand.depth;
+            return_depth = stand.return_depth;
+            known = stand.known;
+            return_known = stand.return_known;
+            size = stand.size;
+            return_size = stand.return_size;
+          })))
           (λ m. later now o.k' o.x' o.j' o.y' o.on_is (subst (λ p. HasAll code p cells q) (sym (ap (λ a. a.pc) m.core)) has.1)
           (let bk' = kept_code data_start code w.core.memory m.memory size m.kept bk in (bk'.0, ap (λ a. a.memory) m.core ∙ bk'.1))
           (moved_counts data_start (following w.core.pc) r b k x j y o.k' o.x' o.j' o.y' f w now m o.counts o.height o.counts_return o.height_return o.place o.return_place stand))

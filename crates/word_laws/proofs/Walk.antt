@@ -71,7 +71,12 @@ depth_to e on k x j y = if_some (counted_to e.data_move k) (λ k'. height_to e o
 
 -- the counters and the reaches before a cell are within what is allowed, and so are those after it
 abbrev pub checked : ℕ → ℕ → Effect → (ℕ → ℕ → ℕ → ℕ → Bool) → ℕ → ℕ → ℕ → ℕ → Bool
-checked hi return_high e on k x j y = nat_le k hi && (nat_le x hi && (nat_le j return_high && (nat_le y return_high && (is_following e.next && (has_place e.t_to_n e.data_move k && (has_place (writes_return e.return_write) e.return_move j && depth_to e on k x j y))))))
+checked hi return_high e on k x j y =
+    nat_le k hi
+    && (nat_le x hi
+    && (nat_le j return_high
+    && (nat_le y return_high
+    && (is_following e.next && (has_place e.t_to_n e.data_move k && (has_place (writes_return e.return_write) e.return_move j && depth_to e on k x j y))))))
 
 -- the counters and the reaches are within what is allowed
 abbrev pub allowed : ℕ → ℕ → ℕ → ℕ → ℕ → ℕ → Bool

@@ -9,7 +9,9 @@ use Rattle.console_ports.specs.Ports.{access_at}
 use Rattle.console_ports.specs.declared.ports.Access.{Access as Met}
 use Rattle.console_ports.specs.declared.ports.Access.TheVariants as met
 use Rattle.word_table.specs.declared.word.Word.{Word}
-use Rattle.word_table.specs.declared.word.Word.TheVariants.{Nip, Tuck, ZeroGreater, NotEqual, Within, Hex, Dup, DropTop, Swap, Over, Rot, TwoDup, TwoDrop, Plus, Minus, Negate, OnePlus, OneMinus, TwoStar, And, Or, Xor, Invert, LShift, RShift, Equal, Less, Greater, ULess, ZeroEqual, ZeroLess, SToD}
+use Rattle.word_table.specs.declared.word.Word.TheVariants.{Nip, Tuck, ZeroGreater, NotEqual, Within, Hex, Dup, DropTop, Swap, Over, Rot, TwoDup, TwoDrop, Plus}
+use Rattle.word_table.specs.declared.word.Word.TheVariants.{Minus, Negate, OnePlus, OneMinus, TwoStar, And, Or, Xor, Invert, LShift, RShift, Equal, Less}
+use Rattle.word_table.specs.declared.word.Word.TheVariants.{Greater, ULess, ZeroEqual, ZeroLess, SToD}
 use Rattle.word_table.specs.declared.word.Word.TheVariants.{Cells, CellPlus, Chars, CharPlus, Aligned, Fetch, Store, Emit, Key, Blank, Cr, Space, Base, Here, Decimal, Depth, AbortRun, Quit, ToR, RFrom, RFetch, Index, OuterIndex, Unloop}
 use Rattle.forth_program.specs.State.{Entry, Cell, Loop, Work, Frame, World, State, Gives, ◌▸◌, Outcome, Goes, Ends}
 use Rattle.forth_program.specs.Access.{taken, fetch_by, store_by}
@@ -51,7 +53,14 @@ module _ (s : State) (g : AreEntries s.entries) (w : World) (e : w.data_start �
   taken_leaves : (i : List ℕ) → ((k : ℕ) → slice_index i k < 256) → (f : ℕ → List ℕ) → ((v : ℕ) → v < 65536 → AreCells (f v)) → Leaves s (on_cells (taken i w ▸ λ v. Gives (f v)) s)
   taken_leaves [] k f c = tt
   taken_leaves (byte ∷ i) k f c =
-      record { work = refl; callers = refl; data_start = e; cells = c byte (let b : byte < 256 = k 0 in omega (arith, b)); entries = g; world = record { data_start = h.data_start; aligned = h.aligned; room = h.room; space = h.space; input = λ j. k (suc j) } }
+      record {
+        work = refl;
+        callers = refl;
+        data_start = e;
+        cells = c byte (let b : byte < 256 = k 0 in omega (arith, b));
+        entries = g;
+        world = record { data_start = h.data_start; aligned = h.aligned; room = h.room; space = h.space; input = λ j. k (suc j) };
+      }
 
   fetch_leaves : (x : Met) (f : ℕ → List ℕ) → ((v : ℕ) → v < 65536 → AreCells (f v)) → Leaves s (on_cells (fetch_by w x ▸ λ v. Gives (f v)) s)
   fetch_leaves (met.Data i) f c = record { work = refl; callers = refl; data_start = e; cells = c (slice_index w.space (i - w.data_start / 2)) (h.space (i - w.data_start / 2)); entries = g; world = h }
@@ -62,7 +71,20 @@ module _ (s : State) (g : AreEntries s.entries) (w : World) (e : w.data_start �
 
   store_leaves : (x : Met) (v : ℕ) (c : List ℕ) → v < 65536 → AreCells c → Leaves s (on_cells (store_by w v x ▸ λ _. Gives c) s)
   store_leaves (met.Data i) v c n f =
-      record { work = refl; callers = refl; data_start = e; cells = f; entries = g; world = record { data_start = h.data_start; aligned = h.aligned; room = (let same = set_length w.space (i - w.data_start / 2) v in let room = h.room in omega (arith, same, room)); space = set_fits w.space (i - w.data_start / 2) v n h.space; input = h.input } }
+      record {
+        work = refl;
+        callers = refl;
+        data_start = e;
+        cells = f;
+        entries = g;
+        world = record {
+          data_start = h.data_start;
+          aligned = h.aligned;
+          room = (let same = set_length w.space (i - w.data_start / 2) v in let room = h.room in omega (arith, same, room));
+          space = set_fits w.space (i - w.data_start / 2) v n h.space;
+          input = h.input;
+        };
+      }
   store_leaves met.Print v c n f = record { work = refl; callers = refl; data_start = e; cells = f; entries = g; world = record { data_start = h.data_start; aligned = h.aligned; room = h.room; space = h.space; input = h.input } }
   store_leaves met.Halt v c n f = tt
   store_leaves (met.Outside a) v c n f = tt

@@ -6,7 +6,9 @@ use Rattle.std.proofs.lemmas.Nat.Bits.{and_high_mask}
 use Rattle.std.proofs.lemmas.Bool.{le-ltb}
 use Rattle.cell_math.specs.Cell.{sum_of, difference_of, flag, signed, double_of, low_cell, high_cell}
 use Rattle.word_table.specs.declared.word.Word.{Word}
-use Rattle.word_table.specs.declared.word.Word.TheVariants.{Nip, Tuck, ZeroGreater, NotEqual, Within, Hex, Dup, DropTop, Swap, Over, Rot, TwoDup, TwoDrop, Plus, Minus, Negate, OnePlus, OneMinus, TwoStar, And, Or, Xor, Invert, LShift, RShift, Equal, Less, Greater, ULess, ZeroEqual, ZeroLess, SToD}
+use Rattle.word_table.specs.declared.word.Word.TheVariants.{Nip, Tuck, ZeroGreater, NotEqual, Within, Hex, Dup, DropTop, Swap, Over, Rot, TwoDup, TwoDrop, Plus}
+use Rattle.word_table.specs.declared.word.Word.TheVariants.{Minus, Negate, OnePlus, OneMinus, TwoStar, And, Or, Xor, Invert, LShift, RShift, Equal, Less}
+use Rattle.word_table.specs.declared.word.Word.TheVariants.{Greater, ULess, ZeroEqual, ZeroLess, SToD}
 use Rattle.word_table.specs.declared.word.Word.TheVariants.{Cells, CellPlus, Chars, CharPlus, Aligned, Fetch, Store, Emit, Key, Blank, Cr, Space, Base, Here, Decimal, Depth, AbortRun, Quit, ToR, RFrom, RFetch, Index, OuterIndex, Unloop}
 use Rattle.forth_program.specs.State.{Entry, Cell, Loop, Work, Frame, World, State, Goes}
 use Rattle.forth_program.specs.Program.{SourceProgram}
@@ -61,7 +63,8 @@ module _ (p : SourceProgram) (work : List Work) (callers : List Frame) (o : Worl
   at_state c es = record { work = work; entries = es; callers = callers; cells = c; world = o }
 
   -- the same result under other names
-  renamed : (w : OpenConfiguration) (q : ℕ) (c c' : List ℕ) (s : State) (da ra : List (Option ℕ)) (d b : ℤ) → w ≡ standing code q c (return_places s.entries base) da ra d b o → c ≡ c' → RowMeans code q base d b w (Goes (record s { cells = c'; world = o }))
+  renamed : (w : OpenConfiguration) (q : ℕ) (c c' : List ℕ) (s : State) (da ra : List (Option ℕ)) (d b : ℤ) →
+      w ≡ standing code q c (return_places s.entries base) da ra d b o → c ≡ c' → RowMeans code q base d b w (Goes (record s { cells = c'; world = o }))
   renamed w q c c' s da ra d b e n = (da, ra, e ∙ ap (λ z. standing code q z (return_places s.entries base) da ra d b o) n)
 
   top : {x y : ℕ} (c : List ℕ) → x ≡ y → x ∷ c ≡ y ∷ c

@@ -1,7 +1,9 @@
 -- Each word keeps to its need, its peak and its back at each of its cells, by computation.
 use Rattle.std.proofs.Common.{◌≡◌, ℕ, ◌≤◌, true, false, List, length, refl}
 use Rattle.word_table.specs.declared.word.Word.{Word}
-use Rattle.word_table.specs.declared.word.Word.TheVariants.{Nip, Tuck, ZeroGreater, NotEqual, Within, Hex, Dup, DropTop, Swap, Over, Rot, TwoDup, TwoDrop, Plus, Minus, Negate, OnePlus, OneMinus, TwoStar, And, Or, Xor, Invert, LShift, RShift, Equal, Less, Greater, ULess, ZeroEqual, ZeroLess, SToD}
+use Rattle.word_table.specs.declared.word.Word.TheVariants.{Nip, Tuck, ZeroGreater, NotEqual, Within, Hex, Dup, DropTop, Swap, Over, Rot, TwoDup, TwoDrop, Plus}
+use Rattle.word_table.specs.declared.word.Word.TheVariants.{Minus, Negate, OnePlus, OneMinus, TwoStar, And, Or, Xor, Invert, LShift, RShift, Equal, Less}
+use Rattle.word_table.specs.declared.word.Word.TheVariants.{Greater, ULess, ZeroEqual, ZeroLess, SToD}
 use Rattle.word_table.specs.declared.word.Word.TheVariants.{Cells, CellPlus, Chars, CharPlus, Aligned, Fetch, Store, Emit, Key, Blank, Cr, Space, Base, Here, Decimal, Depth, AbortRun, Quit, ToR, RFrom, RFetch, Index, OuterIndex, Unloop}
 use Rattle.word_table.specs.Table.{entry_of}
 use Rattle.forth_program.specs.State.{Entry, World, State, End, Ends}
@@ -72,7 +74,8 @@ words_stay data_start Unloop = refl
 words_stay data_start word = tt
 
 -- and after the last of them, for a word that ends the run: this leaves out >R alone
-pub ends_stay : (data_start : ℕ) (p : SourceProgram) (s : State) (word : Word) (c : List ℕ) (es : List Entry) (end : End) (world : World) → (entry_of word).need ≤ length c → word_step p word c es s ≡ Ends end world → When (stands_plain word) (word_stays data_start true word ≡ true)
+pub ends_stay : (data_start : ℕ) (p : SourceProgram) (s : State) (word : Word) (c : List ℕ) (es : List Entry) (end : End) (world : World) →
+    (entry_of word).need ≤ length c → word_step p word c es s ≡ Ends end world → When (stands_plain word) (word_stays data_start true word ≡ true)
 ends_stay data_start p s ToR c es end world n e = with_one (λ c. word_step p ToR c es s ≡ Ends end world → word_stays data_start true ToR ≡ true) (λ x c e. let no : ⊥ = cc in absurd no) c n e
 ends_stay data_start p s Dup c es end world n e = refl
 ends_stay data_start p s DropTop c es end world n e = refl

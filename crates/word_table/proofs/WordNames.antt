@@ -25,7 +25,10 @@ named_is text word h = ap (λ t. first_named t all_words) same ∙ found word
 first_is : (lowered : List ℕ) (words : List Word) (word : Word) → first_named lowered words ≡ Some word → bytes_eq lowered (str_to_ascii_lowercase (name_of word)) ≡ true
 first_is lowered [] word h = cc
 first_is lowered (other ∷ words) word h =
-    elim (bytes_eq lowered (str_to_ascii_lowercase (name_of other))) as (λ b. bytes_eq lowered (str_to_ascii_lowercase (name_of other)) ≡ b → elim b [ true ↦ Some other | false ↦ first_named lowered words ] ≡ Some word → bytes_eq lowered (str_to_ascii_lowercase (name_of word)) ≡ true) [
+    elim (bytes_eq lowered (str_to_ascii_lowercase (name_of other))) as
+    (λ b.
+    bytes_eq lowered (str_to_ascii_lowercase (name_of other)) ≡ b → elim b [ true ↦ Some other | false ↦ first_named lowered words ] ≡ Some word →
+    bytes_eq lowered (str_to_ascii_lowercase (name_of word)) ≡ true) [
       | true ↦ λ e k. let same : other ≡ word = cc in subst (λ w. bytes_eq lowered (str_to_ascii_lowercase (name_of w)) ≡ true) same e
       | false ↦ λ e k. first_is lowered words word k
     ] refl h

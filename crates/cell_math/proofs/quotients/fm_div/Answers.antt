@@ -18,4 +18,11 @@ returns c =
     let b = c.of_cell-by.result in
     c.cells-2.ensures
     ∙ ap (λ t. divided (whole b.negative (d.size % b.size)) (whole t (d.size / b.size))) c.are_apart-apart.ensures
-    ∙ sym (not_down _ _ d.negative b.negative d.size b.size c.of_double-dividend.ensures.value c.of_cell-by.ensures.value (c.of_cell-by.ensures.zero c.if-divisor-eq0.false) (λ e. elim c.else-apart.branch [ else-apart-via-then-apart+else-left-ne0 w ↦ w.if-left-ne0.false | else-apart-via-else-apart w ↦ absurd (let f = w.if-apart.false in let a = c.are_apart-apart.ensures in cc) ]))
+    ∙ sym
+    (not_down _ _ d.negative b.negative d.size b.size c.of_double-dividend.ensures.value c.of_cell-by.ensures.value
+    (c.of_cell-by.ensures.zero c.if-divisor-eq0.false)
+    (λ e.
+    elim c.else-apart.branch [
+      | else-apart-via-then-apart+else-left-ne0 w ↦ w.if-left-ne0.false
+      | else-apart-via-else-apart w ↦ absurd (let f = w.if-apart.false in let a = c.are_apart-apart.ensures in cc)
+    ]))

@@ -52,12 +52,20 @@ add_while-returns t c =
 
 pub add_item-returns-in-Do : goal.add_item-returns-in-Do
 add_item-returns-in-Do t c =
-    subst (λ node. OnOk c.add_do_loop.result (c.add_do_loop.new.code.items ≡ c.args.code.now.items ++ node_cells c.args.data_start (place_by c.args.places.now) c.args.out_at (length c.args.code.now.items) c.args.tail c.args.reached node)) (sym c.do_has_parts.ensures) (c.add_do_loop.ensures c.args.out_at)
+    subst
+    (λ node.
+    OnOk c.add_do_loop.result
+    (c.add_do_loop.new.code.items
+    ≡ c.args.code.now.items
+    ++ node_cells c.args.data_start (place_by c.args.places.now) c.args.out_at (length c.args.code.now.items) c.args.tail c.args.reached node))
+    (sym c.do_has_parts.ensures) (c.add_do_loop.ensures c.args.out_at)
 
 pub add_items-loop-i-preserved : goal.add_items-loop-i-preserved
 add_items-loop-i-preserved t c =
     let l = c.loop-i in
-    one_added c.args.data_start (place_by c.args.places.now) c.args.out_at c.args.tail (word_count c.args.places.now) (definition_count c.args.places.now) _ _ l.code.items c.add_item.new.code.items l.reached c.is_before_end-here.result c.item_falls_through-reached.result c.list-list.result.now l.i c.index-list-i.result (omega arith)
+    one_added c.args.data_start (place_by c.args.places.now) c.args.out_at c.args.tail (word_count c.args.places.now) (definition_count c.args.places.now) _ _
+    l.code.items c.add_item.new.code.items l.reached c.is_before_end-here.result c.item_falls_through-reached.result c.list-list.result.now l.i
+    c.index-list-i.result (omega arith)
     c.index-list-i.is c.is_before_end-here.ensures c.item_falls_through-reached.ensures c.in_ok-add_item.ensures l.invariant
 
 pub add_item-add_while-requires : goal.add_item-add_while-requires
@@ -65,7 +73,9 @@ add_item-add_while-requires t c =
     let room : length c.args.code.now.items + node_size c.args.tail c.args.reached (While (tree_of c.in-While.test) (tree_of c.in-While.body)) ≤ 8000 =
     subst (λ node. length c.args.code.now.items + node_size c.args.tail c.args.reached node ≤ 8000) c.while_has_parts.ensures c.requires.room in
     let fewer : node_tokens (node_of c.args.item.now) ≡ tokens_of (tree_of c.in-While.test) + tokens_of (tree_of c.in-While.body) + 3 = ap node_tokens c.while_has_parts.ensures in
-    let parts = both (everywhere (is_laid_out true (word_count c.args.places.now) (definition_count c.args.places.now)) (tree_of c.in-While.test)) (everywhere (is_laid_out true (word_count c.args.places.now) (definition_count c.args.places.now)) (tree_of c.in-While.body))
+    let parts =
+    both (everywhere (is_laid_out true (word_count c.args.places.now) (definition_count c.args.places.now)) (tree_of c.in-While.test))
+    (everywhere (is_laid_out true (word_count c.args.places.now) (definition_count c.args.places.now)) (tree_of c.in-While.body))
     (subst (λ node. inside (is_laid_out true (word_count c.args.places.now) (definition_count c.args.places.now)) node ≡ true) c.while_has_parts.ensures c.requires.parts) in
     let test = parts.0 in
     let body = parts.1 in
@@ -93,7 +103,9 @@ add_item-add_case-requires t c =
     let room : length c.args.code.now.items + node_size c.args.tail c.args.reached (Case (arms_tree (arms_of c.in-Case.arms)) (tree_of c.in-Case.rest)) ≤ 8000 =
     subst (λ node. length c.args.code.now.items + node_size c.args.tail c.args.reached node ≤ 8000) c.case_has_parts.ensures c.requires.room in
     let fewer : node_tokens (node_of c.args.item.now) ≡ arms_tokens (arms_tree (arms_of c.in-Case.arms)) + tokens_of (tree_of c.in-Case.rest) + 2 = ap node_tokens c.case_has_parts.ensures in
-    let parts = both (in_arms (is_laid_out true (word_count c.args.places.now) (definition_count c.args.places.now)) (arms_tree (arms_of c.in-Case.arms))) (everywhere (is_laid_out true (word_count c.args.places.now) (definition_count c.args.places.now)) (tree_of c.in-Case.rest))
+    let parts =
+    both (in_arms (is_laid_out true (word_count c.args.places.now) (definition_count c.args.places.now)) (arms_tree (arms_of c.in-Case.arms)))
+    (everywhere (is_laid_out true (word_count c.args.places.now) (definition_count c.args.places.now)) (tree_of c.in-Case.rest))
     (subst (λ node. inside (is_laid_out true (word_count c.args.places.now) (definition_count c.args.places.now)) node ≡ true) c.case_has_parts.ensures c.requires.parts) in
     let first = parts.0 in
     let last = parts.1 in
@@ -101,12 +113,21 @@ add_item-add_case-requires t c =
 
 pub add_item-returns-in-QDo : goal.add_item-returns-in-QDo
 add_item-returns-in-QDo t c =
-    subst (λ node. OnOk c.add_q_do.result (c.add_q_do.new.code.items ≡ c.args.code.now.items ++ node_cells c.args.data_start (place_by c.args.places.now) c.args.out_at (length c.args.code.now.items) c.args.tail c.args.reached node)) (sym c.q_do_has_parts.ensures) (c.add_q_do.ensures c.args.out_at)
+    subst
+    (λ node.
+    OnOk c.add_q_do.result
+    (c.add_q_do.new.code.items
+    ≡ c.args.code.now.items
+    ++ node_cells c.args.data_start (place_by c.args.places.now) c.args.out_at (length c.args.code.now.items) c.args.tail c.args.reached node))
+    (sym c.q_do_has_parts.ensures) (c.add_q_do.ensures c.args.out_at)
 
 pub add_items-add_item-requires : goal.add_items-add_item-requires
 add_items-add_item-requires t c =
     let l = c.loop-i in
-    let f = item_fits c.args.data_start (place_by c.args.places.now) c.args.out_at c.args.tail (word_count c.args.places.now) (definition_count c.args.places.now) _ _ l.code.items l.reached c.is_before_end-here.result c.list-list.result.now l.i c.index-list-i.result (omega arith) c.index-list-i.is c.is_before_end-here.ensures
+    let f =
+    item_fits c.args.data_start (place_by c.args.places.now) c.args.out_at c.args.tail (word_count c.args.places.now)
+    (definition_count c.args.places.now) _ _ l.code.items l.reached c.is_before_end-here.result c.list-list.result.now l.i c.index-list-i.result
+    (omega arith) c.index-list-i.is c.is_before_end-here.ensures
     l.invariant in
     let laid = f.0 in
     let parts = f.1 in
@@ -117,7 +138,9 @@ add_items-add_item-requires t c =
 pub add_arms-add_arm-requires : goal.add_arms-add_arm-requires
 add_arms-add_arm-requires t c =
     let l = c.loop-arm in
-    let f = arm_fits c.args.data_start (place_by c.args.places.now) c.args.out_at c.args.tail c.args.end_at (word_count c.args.places.now) (definition_count c.args.places.now) _ _ l.code.items c.args.arms.now l.arm-index c.arm-item.result (omega arith) c.arm-item.is l.invariant in
+    let f =
+    arm_fits c.args.data_start (place_by c.args.places.now) c.args.out_at c.args.tail c.args.end_at (word_count c.args.places.now)
+    (definition_count c.args.places.now) _ _ l.code.items c.args.arms.now l.arm-index c.arm-item.result (omega arith) c.arm-item.is l.invariant in
     let tests = f.0 in
     let body = f.1 in
     let room = f.2 in
@@ -127,7 +150,9 @@ add_arms-add_arm-requires t c =
 pub add_arms-loop-arm-preserved : goal.add_arms-loop-arm-preserved
 add_arms-loop-arm-preserved t c =
     let l = c.loop-arm in
-    one_arm_added c.args.data_start (place_by c.args.places.now) c.args.out_at c.args.tail c.args.end_at (word_count c.args.places.now) (definition_count c.args.places.now) _ _ l.code.items c.add_arm.new.code.items c.args.arms.now l.arm-index c.arm-item.result (omega arith) c.arm-item.is c.in_ok-add_arm.ensures l.invariant
+    one_arm_added c.args.data_start (place_by c.args.places.now) c.args.out_at c.args.tail c.args.end_at (word_count c.args.places.now)
+    (definition_count c.args.places.now) _ _ l.code.items c.add_arm.new.code.items c.args.arms.now l.arm-index c.arm-item.result (omega arith) c.arm-item.is
+    c.in_ok-add_arm.ensures l.invariant
 
 pub add_arm-add_items-requires-2 : goal.add_arm-add_items-requires-2
 add_arm-add_items-requires-2 t c =
@@ -168,7 +193,8 @@ add_case-returns t c =
     let trees = ap arms_tree c.list-list.ensures in
     let added : c.add_arms.new.code.items ≡ code ++ arms_cells c.args.data_start place c.args.out_at (length code) c.args.tail (length code + arms_size c.args.tail arms + size false true rest + 1) arms = grind arith in
     on_ok_weaker c.add_drop.result
-    (case_added c.args.data_start place c.args.out_at (length code) c.args.tail arms rest code c.add_arms.new.code.items c.add_items.new.code.items c.add_drop.new.code.items refl (omega (arith, one, same)) added c.in_ok-add_items.ensures) c.add_drop.ensures
+    (case_added c.args.data_start place c.args.out_at (length code) c.args.tail arms rest code c.add_arms.new.code.items c.add_items.new.code.items
+    c.add_drop.new.code.items refl (omega (arith, one, same)) added c.in_ok-add_items.ensures) c.add_drop.ensures
 
 pub add_q_do-returns : goal.add_q_do-returns
 add_q_do-returns t c = λ out_at.

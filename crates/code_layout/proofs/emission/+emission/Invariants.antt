@@ -9,7 +9,9 @@ use Rattle.code_layout.proofs.emission.+emission.Given as goal
 abbrev pub invariant-add_items-loop-i : goal.invariant-add_items-loop-i
 invariant-add_items-loop-i l =
     let place = place_by l.places in
-    Before l.data_start place l.out_at l.tail (word_count l.places) (definition_count l.places) (tokens_of (tree_of l.items)) (l.fn.code.items ++ nodes_cells l.data_start place l.out_at (length l.fn.code.items) l.tail true (tree_of l.items)) l.code.items l.reached (drop l.i l.list)
+    Before l.data_start place l.out_at l.tail (word_count l.places) (definition_count l.places) (tokens_of (tree_of l.items))
+    (l.fn.code.items ++ nodes_cells l.data_start place l.out_at (length l.fn.code.items) l.tail true (tree_of l.items)) l.code.items l.reached
+    (drop l.i l.list)
 
 -- the work that remains, by the tokens of what is laid out
 abbrev pub decreases-add_item : goal.decreases-add_item
@@ -33,7 +35,9 @@ decreases-add_do_loop l = 3 * tokens_of (tree_of l.body.now) + 2
 abbrev pub invariant-add_arms-loop-arm : goal.invariant-add_arms-loop-arm
 invariant-add_arms-loop-arm l =
     let place = place_by l.places in
-    ArmsBefore l.data_start place l.out_at l.tail l.end_at (word_count l.places) (definition_count l.places) (arms_tokens (arms_tree l.arms)) (l.initial.code.items ++ arms_cells l.data_start place l.out_at (length l.initial.code.items) l.tail l.end_at (arms_tree l.arms)) l.code.items (drop l.arm-index l.arms)
+    ArmsBefore l.data_start place l.out_at l.tail l.end_at (word_count l.places) (definition_count l.places) (arms_tokens (arms_tree l.arms))
+    (l.initial.code.items ++ arms_cells l.data_start place l.out_at (length l.initial.code.items) l.tail l.end_at (arms_tree l.arms)) l.code.items
+    (drop l.arm-index l.arms)
 
 abbrev pub decreases-add_again : goal.decreases-add_again
 decreases-add_again l = 3 * tokens_of (tree_of l.body.now) + 2

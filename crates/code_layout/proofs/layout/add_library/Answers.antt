@@ -12,5 +12,10 @@ returns c =
     let before = c.args.code.now.items in
     let middle = c.add_execute.new.code.items in
     on_ok_weaker c.add_abort.result
-    (λ added. three_parts before c.add_bodies.new.code.items middle c.add_abort.new.code.items (bodies_cells c.args.data_start place (length before) (library_of c.args.library.now)) (execute_cells places.execute c.args.token_count) (abort_cells places.abort (place_by places type_routine))
-    (c.in_ok-add_bodies.ensures ∙ ap (λ n. before ++ bodies_cells c.args.data_start place (length before) (take n c.args.library.now.bodies)) c.main.ensures.value) c.in_ok-add_execute.ensures (added ∙ ap (λ t. middle ++ abort_cells places.abort t) c.type_place.ensures.value)) c.add_abort.ensures
+    (λ added.
+    three_parts before c.add_bodies.new.code.items middle c.add_abort.new.code.items
+    (bodies_cells c.args.data_start place (length before) (library_of c.args.library.now)) (execute_cells places.execute c.args.token_count)
+    (abort_cells places.abort (place_by places type_routine))
+    (c.in_ok-add_bodies.ensures
+    ∙ ap (λ n. before ++ bodies_cells c.args.data_start place (length before) (take n c.args.library.now.bodies)) c.main.ensures.value)
+    c.in_ok-add_execute.ensures (added ∙ ap (λ t. middle ++ abort_cells places.abort t) c.type_place.ensures.value)) c.add_abort.ensures

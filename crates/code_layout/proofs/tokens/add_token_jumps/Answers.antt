@@ -13,5 +13,6 @@ overflow_add-at c = omega (arith, c.token_size-at.ensures, token_fits c.args.tok
 pub loop-token-preserved : goal.loop-token-preserved
 loop-token-preserved c =
     let l = c.loop-token in
-    jump_added (place_by c.args.places.now) (word_count c.args.places.now) (definition_count c.args.places.now) _ l.code.items c.add_jump.new.code.items l.at (l.at + c.token_size-at.result) c.args.tokens.now l.token-index (Def (record { 0 = 0 })) c.loop-token-test.true
+    jump_added (place_by c.args.places.now) (word_count c.args.places.now) (definition_count c.args.places.now) _ l.code.items c.add_jump.new.code.items l.at
+    (l.at + c.token_size-at.result) c.args.tokens.now l.token-index (Def (record { 0 = 0 })) c.loop-token-test.true
     (c.in_ok-add_jump.ensures ∙ ap (λ n. l.code.items ++ n ∷ []) c.token_place.ensures) (ap (λ n. l.at + n) c.token_size-at.ensures) l.invariant

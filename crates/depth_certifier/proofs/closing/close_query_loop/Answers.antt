@@ -4,4 +4,6 @@ use Rattle.depth_certifier.proofs.closing.close_query_loop.Goals as goal
 
 pub returns-clause-step : goal.returns-clause-step
 returns-clause-step c =
-    query_close_walked (limits_of c.args.facts.bounds) c.args.turn (place_of_reach c.args.head) (place_of_reach c.args.began) (place_of_reach c.args.outer) c.drop_query_loop.result c.table_demand.result _ _ _ _ c.table_demand.ensures c.in_ok-take.ensures.step c.in_ok-go_back.ensures.step c.drop_query_loop.ensures.step
+    query_close_walked (limits_of c.args.facts.bounds) c.args.turn (place_of_reach c.args.head) (place_of_reach c.args.began) (place_of_reach c.args.outer)
+    c.drop_query_loop.result c.table_demand.result _ _ _ _ c.table_demand.ensures c.in_ok-take.ensures.step c.in_ok-go_back.ensures.step
+    c.drop_query_loop.ensures.step

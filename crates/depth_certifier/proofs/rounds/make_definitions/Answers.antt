@@ -9,8 +9,12 @@ returns-in-Err-clause-bodies c =
 
 pub loop-d-preserved : goal.loop-d-preserved
 loop-d-preserved c = (
-  one_made c.args.program.now (record { definitions = c.args.effects.now; shared = c.args.shared }) (record { definitions = c.requires.effects; shared = c.requires.shared }) c.loop-d.d c.loop-d.count c.loop-d.next c.loop-d.notes c.make_definition.new.notes c.in-Ok.effect c.in-Ok.more
-      (omega (arith, c.loop-d-test.true, c.def_count-d-end.ensures.value)) (omega (arith, c.loop-d-test.true, c.def_count-d-end.ensures.value, c.loop-d.auto.next, c.requires.next)) c.in-Ok.ensures.count c.in-Ok.ensures.made c.loop-d.invariant.0,
+  one_made c.args.program.now (record { definitions = c.args.effects.now; shared = c.args.shared })
+      (record { definitions = c.requires.effects; shared = c.requires.shared }) c.loop-d.d c.loop-d.count c.loop-d.next c.loop-d.notes
+      c.make_definition.new.notes c.in-Ok.effect c.in-Ok.more
+      (omega (arith, c.loop-d-test.true, c.def_count-d-end.ensures.value))
+      (omega (arith, c.loop-d-test.true, c.def_count-d-end.ensures.value, c.loop-d.auto.next, c.requires.next)) c.in-Ok.ensures.count c.in-Ok.ensures.made
+      c.loop-d.invariant.0,
   c.make_definition.ensures.length ∙ c.loop-d.invariant.1,
 )
 

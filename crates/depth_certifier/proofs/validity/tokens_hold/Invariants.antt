@@ -8,4 +8,5 @@ use Rattle.depth_certifier.proofs.validity.tokens_hold.Given as goal
 
 abbrev pub invariant-loop-token : goal.invariant-loop-token
 invariant-loop-token l =
-    list_all (λ node. effect_in (token_effect (known_of l.certificate) node) l.certificate.shared) (map token_node (drop l.token-index l.tokens)) ≡ list_all (λ node. effect_in (token_effect (known_of l.certificate) node) l.certificate.shared) l.program.tokens
+    list_all (λ node. effect_in (token_effect (known_of l.certificate) node) l.certificate.shared) (map token_node (drop l.token-index l.tokens))
+    ≡ list_all (λ node. effect_in (token_effect (known_of l.certificate) node) l.certificate.shared) l.program.tokens

@@ -8,7 +8,9 @@ use Rattle.depth_certifier.proofs.walking.+walking.Given as goal
 
 abbrev pub invariant-walk_items-loop-at : goal.invariant-walk_items-loop-at
 invariant-walk_items-loop-at l =
-    Remains l.facts l.effects l.heads l.top l.next (items_in (tree_of l.items)) (items_step l.facts l.effects l.heads l.top l.next (tree_of l.items) (walk_in l.facts.finding l.fn.notes l.fn.walker)) (walk_in l.facts.finding l.notes l.walker) (drop l.at l.list)
+    Remains l.facts l.effects l.heads l.top l.next (items_in (tree_of l.items))
+    (items_step l.facts l.effects l.heads l.top l.next (tree_of l.items) (walk_in l.facts.finding l.fn.notes l.fn.walker))
+    (walk_in l.facts.finding l.notes l.walker) (drop l.at l.list)
     × Roomy l.facts.finding (l.fn.walker.count + loops (tree_of l.items)) (length l.fn.notes) l.walker.count l.notes (drop l.at l.list)
 
 -- the work that remains, by the items

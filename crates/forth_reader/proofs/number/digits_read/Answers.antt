@@ -12,6 +12,8 @@ loop-byte-init c = record {
 
 pub loop-byte-preserved : goal.loop-byte-preserved
 loop-byte-preserved c = record {
-  same = next_digit _ _ c.loop-byte.value c.digit_value-next.result _ c.in-Some.byte.now c.in-Some.tail.now c.loop-byte.rest.now c.in-Some.ensures.cases.0 c.digit_value-next.ensures.value c.if-next-base.false c.min-value.ensures ∙ c.loop-byte.invariant.same;
+  same =
+      next_digit _ _ c.loop-byte.value c.digit_value-next.result _ c.in-Some.byte.now c.in-Some.tail.now c.loop-byte.rest.now c.in-Some.ensures.cases.0
+      c.digit_value-next.ensures.value c.if-next-base.false c.min-value.ensures ∙ c.loop-byte.invariant.same;
   small = omega (arith, min-le_right (c.loop-byte.value * c.args.base + c.digit_value-next.result) 65536);
 }

@@ -36,7 +36,8 @@ loop-made-preserved g c =
 
 pub returns-in_err-end-clause-at_most : goal.returns-in_err-end-clause-at_most
 returns-in_err-end-clause-at_most g c =
-    made_broken c.in_err-end.field-0.0 c.turn.result c.args.n c.from_residual.result (omega arith) c.loop-made.invariant.room c.turn.ensures.grows c.in_err-end.was (search rules) c.loop-made.invariant.at c.turn.ensures.run c.turn.ensures.over c.turn.ensures.kept c.turn.ensures.wants
+    made_broken c.in_err-end.field-0.0 c.turn.result c.args.n c.from_residual.result (omega arith) c.loop-made.invariant.room c.turn.ensures.grows
+    c.in_err-end.was (search rules) c.loop-made.invariant.at c.turn.ensures.run c.turn.ensures.over c.turn.ensures.kept c.turn.ensures.wants
 
 pub returns-in_err-end-clause-read : goal.returns-in_err-end-clause-read
 returns-in_err-end-clause-read g c =
@@ -54,15 +55,20 @@ returns-in_err-end-clause-write g c =
 
 pub returns-in_err-flush-clause-at_most : goal.returns-in_err-flush-clause-at_most
 returns-in_err-flush-clause-at_most g c =
-    made_front c.args.n _ (omega arith) c.in_ok-end.ensures.room (inl (c.in-Some.end, sym c.in_ok-end.ensures.ended ∙ c.in-Some.is)) (search rules) (drives_on c.loop-made.invariant.at c.in_ok-end.ensures.run c.in_ok-end.ensures.over c.in_ok-end.ensures.given) c.in_err-flush.ensures.bytes
+    made_front c.args.n _ (omega arith) c.in_ok-end.ensures.room (inl (c.in-Some.end, sym c.in_ok-end.ensures.ended ∙ c.in-Some.is)) (search rules)
+    (drives_on c.loop-made.invariant.at c.in_ok-end.ensures.run c.in_ok-end.ensures.over c.in_ok-end.ensures.given) c.in_err-flush.ensures.bytes
 
 pub returns-in_err-flush-clause-write : goal.returns-in_err-flush-clause-write
 returns-in_err-flush-clause-write g c =
-    told_when (g.C.Source.left c.args.console.now) _ _ (λ e. front_here _ c.args.n (omega arith) c.in_ok-end.ensures.room (inl (c.in-Some.end, sym c.in_ok-end.ensures.ended ∙ c.in-Some.is)) (drives_on c.loop-made.invariant.at c.in_ok-end.ensures.run c.in_ok-end.ensures.over c.in_ok-end.ensures.given) c.in_err-flush.ensures.bytes)
+    told_when (g.C.Source.left c.args.console.now) _ _
+    (λ e.
+    front_here _ c.args.n (omega arith) c.in_ok-end.ensures.room (inl (c.in-Some.end, sym c.in_ok-end.ensures.ended ∙ c.in-Some.is))
+    (drives_on c.loop-made.invariant.at c.in_ok-end.ensures.run c.in_ok-end.ensures.over c.in_ok-end.ensures.given) c.in_err-flush.ensures.bytes)
 
 pub returns-in-Some-clause-run : goal.returns-in-Some-clause-run
 returns-in-Some-clause-run g c =
-    ended_here _ c.loop-made._made c.args.n c.in-Some.end (omega arith) (sym c.in_ok-end.ensures.ended ∙ c.in-Some.is) (drives_on c.loop-made.invariant.at c.in_ok-end.ensures.run c.in_ok-end.ensures.over c.in_ok-end.ensures.given) c.in_ok-flush.ensures.bytes
+    ended_here _ c.loop-made._made c.args.n c.in-Some.end (omega arith) (sym c.in_ok-end.ensures.ended ∙ c.in-Some.is)
+    (drives_on c.loop-made.invariant.at c.in_ok-end.ensures.run c.in_ok-end.ensures.over c.in_ok-end.ensures.given) c.in_ok-flush.ensures.bytes
 
 pub returns-in-Some-clause-at_most : goal.returns-in-Some-clause-at_most
 returns-in-Some-clause-at_most g c =

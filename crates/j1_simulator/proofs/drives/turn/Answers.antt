@@ -53,10 +53,19 @@ returns-in_ok-byte-in-WantsByte-clause-run g c =
       ends = λ configuration fits data_start before left after l a.
           let f = flushed configuration fits c.args.machine.now c.step.new.self data_start left before _ _ _ a w.1 c.in_ok-flush-in-WantsByte.ensures.bytes in
           let t = key_turned configuration fits c.step.new.self c.give_byte.new.self c.step_apart.new.self data_start _ left after before _ _ _ f (subst WantsAByte (sym w.1) w.0) c.give_byte.ensures l c.step_apart.ensures.step in
-          let h : HoldsPrints before (g.O.Sink.held c.flush.new.out) (c.flush.new.self ++ told c.step_apart.result) (advance data_start configuration).printed = subst (λ b. HoldsPrints before (g.O.Sink.held c.flush.new.out) (b ++ told c.step_apart.result) (advance data_start configuration).printed) (sym c.in_ok-flush-in-WantsByte.ensures.empty) t.at.out in
-          let silent : told c.step_apart.result ≡ [] = key_silent c.step.new.self c.give_byte.new.self c.step_apart.new.self c.step_apart.result c.in_ok-byte-in-WantsByte.byte (subst WantsAByte (sym w.1) w.0) c.give_byte.ensures c.step_apart.ensures.step in
-          noted c.note.result _ c.args.machine.now c.args.buffer.now configuration fits c.step_apart.new.self data_start after before _ _ _ _ _ t c.note.ensures.err (c.note.ensures.ok before (advance data_start configuration).printed h) (c.note.ensures.front before (advance data_start configuration).printed h)
-          (key_follows c.note.result c.args.machine.now c.step_apart.new.self configuration (advance data_start configuration) _ _ _ c.step_apart.result c.in_ok-flush-in-WantsByte.ensures.empty silent t.given c.note.ensures.waits) (key_fills c.note.result c.step_apart.new.self configuration (advance data_start configuration) _ _ c.step_apart.result silent c.note.ensures.full);
+          let h : HoldsPrints before (g.O.Sink.held c.flush.new.out) (c.flush.new.self ++ told c.step_apart.result) (advance data_start configuration).printed =
+          subst (λ b. HoldsPrints before (g.O.Sink.held c.flush.new.out) (b ++ told c.step_apart.result) (advance data_start configuration).printed)
+          (sym c.in_ok-flush-in-WantsByte.ensures.empty) t.at.out in
+          let silent : told c.step_apart.result ≡ [] =
+          key_silent c.step.new.self c.give_byte.new.self c.step_apart.new.self c.step_apart.result c.in_ok-byte-in-WantsByte.byte
+          (subst WantsAByte (sym w.1) w.0) c.give_byte.ensures c.step_apart.ensures.step in
+          noted c.note.result _ c.args.machine.now c.args.buffer.now configuration fits c.step_apart.new.self data_start after before _ _ _ _ _ t
+          c.note.ensures.err (c.note.ensures.ok before (advance data_start configuration).printed h)
+          (c.note.ensures.front before (advance data_start configuration).printed h)
+          (key_follows c.note.result c.args.machine.now c.step_apart.new.self configuration (advance data_start configuration) _ _ _ c.step_apart.result
+          c.in_ok-flush-in-WantsByte.ensures.empty silent t.given c.note.ensures.waits)
+          (key_fills c.note.result c.step_apart.new.self configuration (advance data_start configuration) _ _ c.step_apart.result silent
+          c.note.ensures.full);
     }
 
 pub returns-in_ok-byte-in-WantsByte-clause-given : goal.returns-in_ok-byte-in-WantsByte-clause-given
@@ -68,7 +77,10 @@ returns-in_ok-byte-in-WantsByte-clause-quiet g c = λ apart. absurd (apart (want
 
 pub returns-in_ok-byte-in-WantsByte-clause-ended : goal.returns-in_ok-byte-in-WantsByte-clause-ended
 returns-in_ok-byte-in-WantsByte-clause-ended g c =
-    subst (λ x. IfOk c.note.result (λ end. end ≡ x)) (sym (ended_is _ c.give_byte.new.self c.step_apart.new.self c.step_apart.ensures.step (has_its_byte c.step.new.self c.give_byte.new.self c.step_apart.new.self _ _ c.give_byte.ensures c.step_apart.ensures.step))) c.note.ensures.end
+    subst (λ x. IfOk c.note.result (λ end. end ≡ x))
+    (sym
+    (ended_is _ c.give_byte.new.self c.step_apart.new.self c.step_apart.ensures.step
+    (has_its_byte c.step.new.self c.give_byte.new.self c.step_apart.new.self _ _ c.give_byte.ensures c.step_apart.ensures.step))) c.note.ensures.end
 
 pub returns-in_default : goal.returns-in_default
 returns-in_default g c =
@@ -93,9 +105,13 @@ returns-in_default g c =
         takes = given_taken c.args.machine.now c.step.new.self _ _ c.step.ensures.due c.step.ensures.step;
         ends = λ configuration fits data_start before left after l a.
             let t = stepped configuration fits c.args.machine.now c.step.new.self data_start _ left after before _ _ a c.step.ensures.due c.step.ensures.step c.in_default.not-WantsByte l in
-            noted c.note-in_default.result _ c.args.machine.now c.args.buffer.now configuration fits c.step.new.self data_start after before _ _ _ _ _ t c.note-in_default.ensures.err (c.note-in_default.ensures.ok before (advance data_start configuration).printed t.at.out) (c.note-in_default.ensures.front before (advance data_start configuration).printed t.at.out)
-            (on_ok_follows c.note-in_default.result configuration fits c.args.machine.now c.step.new.self data_start _ left after before _ _ _ a c.step.ensures.due c.step.ensures.step c.in_default.not-WantsByte l t.at.left_is c.note-in_default.ensures.waits)
-            (on_err_fills c.note-in_default.result configuration fits c.args.machine.now c.step.new.self data_start _ left after before _ _ a c.step.ensures.due c.step.ensures.step c.in_default.not-WantsByte l t.at.left_is c.note-in_default.ensures.full);
+            noted c.note-in_default.result _ c.args.machine.now c.args.buffer.now configuration fits c.step.new.self data_start after before _ _ _ _ _ t
+            c.note-in_default.ensures.err (c.note-in_default.ensures.ok before (advance data_start configuration).printed t.at.out)
+            (c.note-in_default.ensures.front before (advance data_start configuration).printed t.at.out)
+            (on_ok_follows c.note-in_default.result configuration fits c.args.machine.now c.step.new.self data_start _ left after before _ _ _ a
+            c.step.ensures.due c.step.ensures.step c.in_default.not-WantsByte l t.at.left_is c.note-in_default.ensures.waits)
+            (on_err_fills c.note-in_default.result configuration fits c.args.machine.now c.step.new.self data_start _ left after before _ _ a c.step.ensures.due
+            c.step.ensures.step c.in_default.not-WantsByte l t.at.left_is c.note-in_default.ensures.full);
       };
     }
 

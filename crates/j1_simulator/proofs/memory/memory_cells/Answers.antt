@@ -5,7 +5,8 @@ use Rattle.j1_simulator.proofs.memory.memory_cells.Goals as goal
 
 pub returns-clause-cells : goal.returns-clause-cells
 returns-clause-cells c =
-    laid_out c.args.image.now c.in_ok-memory.memory.items _ _ _ _ (search rules) c.cells.ensures.bound (grind arith) c.in_ok-fill.ensures.items (c.in_ok-add_bytes.ensures ∙ ap (λ b. c.fill.new.cells.items ++ cells_of_bytes b) c.bytes.ensures.bytes) c.in_ok-fill-2.ensures.items
+    laid_out c.args.image.now c.in_ok-memory.memory.items _ _ _ _ (search rules) c.cells.ensures.bound (grind arith) c.in_ok-fill.ensures.items
+    (c.in_ok-add_bytes.ensures ∙ ap (λ b. c.fill.new.cells.items ++ cells_of_bytes b) c.bytes.ensures.bytes) c.in_ok-fill-2.ensures.items
 
 pub fill-requires-2 : goal.fill-requires-2
 fill-requires-2 c =

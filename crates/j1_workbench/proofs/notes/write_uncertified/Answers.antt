@@ -10,8 +10,10 @@ returns-in-Data-clause-bytes g c =
 
 pub returns-in-Return-clause-bytes : goal.returns-in-Return-clause-bytes
 returns-in-Return-clause-bytes g c =
-    uncertified_noted _ _ c.write_line-in-Return.result (named c.args.name.now) c.as_bytes-in-Return.result.now Return c.args.cause _ c.in-Return.is (c.as_bytes-in-Return.ensures.value ∙ c.named-in-Return.ensures) refl c.write_line-in-Return.ensures.bytes
+    uncertified_noted _ _ c.write_line-in-Return.result (named c.args.name.now) c.as_bytes-in-Return.result.now Return c.args.cause _ c.in-Return.is
+    (c.as_bytes-in-Return.ensures.value ∙ c.named-in-Return.ensures) refl c.write_line-in-Return.ensures.bytes
 
 pub returns-in-Shape-clause-bytes : goal.returns-in-Shape-clause-bytes
 returns-in-Shape-clause-bytes g c =
-    uncertified_noted _ _ c.write_line-in-Shape.result (named c.args.name.now) c.as_bytes-in-Shape.result.now Shape c.args.cause _ c.in-Shape.is (c.as_bytes-in-Shape.ensures.value ∙ c.named-in-Shape.ensures) refl c.write_line-in-Shape.ensures.bytes
+    uncertified_noted _ _ c.write_line-in-Shape.result (named c.args.name.now) c.as_bytes-in-Shape.result.now Shape c.args.cause _ c.in-Shape.is
+    (c.as_bytes-in-Shape.ensures.value ∙ c.named-in-Shape.ensures) refl c.write_line-in-Shape.ensures.bytes

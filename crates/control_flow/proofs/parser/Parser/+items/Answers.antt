@@ -37,7 +37,9 @@ items-tokens-preserved t c = record {
   same = λ n h.
       next_item _ (items_of c.tokens.done) (n - length (items_of c.tokens.done)) (parser_state c.tokens.self) (c.tokens.invariant.same n h) (omega arith)
       c.in-Ok.sense (parser_state c.token.new.self) c.in-Ok.ensures.gives c.in_default.not-Ends
-      c.in-Ok-item.item (parser_state c.item.new.self) (c.in-Ok-item.ensures.gives (n - length (items_of c.tokens.done) - 1) (n - length (items_of c.tokens.done) - 1) (omega (arith, c.in-Ok.ensures.shorter)) (omega (arith, c.in-Ok.ensures.shorter)))
+      c.in-Ok-item.item (parser_state c.item.new.self)
+      (c.in-Ok-item.ensures.gives (n - length (items_of c.tokens.done) - 1) (n - length (items_of c.tokens.done) - 1)
+      (omega (arith, c.in-Ok.ensures.shorter)) (omega (arith, c.in-Ok.ensures.shorter)))
       ∙ one_more (items_of c.tokens.done) (items_of c.push.new.self) c.in-Ok-item.item n (parser_state c.item.new.self) c.in-Ok-push.ensures.ok;
   room = omega (arith, longer _ _ _ c.in-Ok-push.ensures.ok, c.in-Ok.ensures.shorter, c.in-Ok-item.ensures.shorter);
   ready = c.in-Ok-item.ensures.ready;

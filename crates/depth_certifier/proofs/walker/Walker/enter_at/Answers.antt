@@ -13,4 +13,5 @@ returns c =
     let low = to_z-of_z w16 c.args.low a in
     let high = to_z-of_z w16 c.args.high b in
     let inside = inside_test c.args.low c.args.spot.low c.args.spot.high c.args.high (to_z w16 (of_z w16 c.args.low)) (to_z w16 (of_z w16 c.args.high)) c.lies_inside.result low high c.lies_inside.ensures c.if-not-lies_inside.false in
-    entered c.args.self.now c.args.spot c.widened.result c.args.low c.args.high (int_le c.args.low c.args.spot.low && int_le c.args.spot.high c.args.high) inside (c.widened.ensures.low ∙ low) (c.widened.ensures.high ∙ high) c.widened.ensures.entries
+    entered c.args.self.now c.args.spot c.widened.result c.args.low c.args.high (int_le c.args.low c.args.spot.low && int_le c.args.spot.high c.args.high)
+    inside (c.widened.ensures.low ∙ low) (c.widened.ensures.high ∙ high) c.widened.ensures.entries

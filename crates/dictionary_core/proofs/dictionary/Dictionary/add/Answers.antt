@@ -21,8 +21,10 @@ returns-in-Ok-push-clause-room g c = omega (arith, c.len-place.ensures, c.if-pla
 
 pub invariant_of-self-in-Ok-push : goal.invariant_of-self-in-Ok-push
 invariant_of-self-in-Ok-push g c =
-    chain_added c.self.inside.names.names _ c.self.inside.entries.items _ c.self.inside.heads c.args.name.now (record { bucket = c.bucket_of-bucket.result; older = _; value = c.args.value }) c.len-place.result c.bucket_of-bucket.ensures.value
-    c.self.invariant (omega (arith, c.len-place.ensures, c.if-place-ge512.false, c.self.invariant.as_many)) refl (ap (λ (l : NameList). l.names) c.in-Ok.ensures.ok) c.in-Ok-push.ensures.items (omega (arith, c.len-place.ensures, c.self.invariant.as_many))
+    chain_added c.self.inside.names.names _ c.self.inside.entries.items _ c.self.inside.heads c.args.name.now
+    (record { bucket = c.bucket_of-bucket.result; older = _; value = c.args.value }) c.len-place.result c.bucket_of-bucket.ensures.value
+    c.self.invariant (omega (arith, c.len-place.ensures, c.if-place-ge512.false, c.self.invariant.as_many)) refl
+    (ap (λ (l : NameList). l.names) c.in-Ok.ensures.ok) c.in-Ok-push.ensures.items (omega (arith, c.len-place.ensures, c.self.invariant.as_many))
 
 pub returns-in-Ok-push-clause-ok : goal.returns-in-Ok-push-clause-ok
 returns-in-Ok-push-clause-ok g c = (

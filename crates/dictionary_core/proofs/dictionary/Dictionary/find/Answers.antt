@@ -15,7 +15,10 @@ returns-in_err-place g c =
     let entries = c.self.inside.entries.items in
     let looks = seen_looks names entries _ (bucket c.args.name.now) _ c.self.view_is c.self.invariant.as_many c.place_in_chain.ensures.looks in
     let risen = seen_risen names entries _ _ c.self.view_is c.place_in_chain.ensures.risen in
-    rw c.from_residual.ensures ((refl, λ _. tt, (seen_pairs names _ entries _ c.self.view_is c.place_in_chain.ensures.names, risen, looks)), seen_place names entries _ c.args.name.now _ c.self.view_is c.self.invariant.as_many c.in_err-place.ensures.place)
+    rw c.from_residual.ensures (
+      (refl, λ _. tt, (seen_pairs names _ entries _ c.self.view_is c.place_in_chain.ensures.names, risen, looks)),
+      seen_place names entries _ c.args.name.now _ c.self.view_is c.self.invariant.as_many c.in_err-place.ensures.place,
+    )
 
 pub index-requires : goal.index-requires
 index-requires g c = omega (arith, last_within (is_same_name c.args.name.now) c.self.inside.names.names c.in_ok-place.place (sym c.in_ok-place.ensures.place), c.self.invariant.as_many)

@@ -20,7 +20,12 @@ index-requires g c = omega (arith, last_within (is_same_name c.args.name.now) c.
 
 pub returns-clause-value : goal.returns-clause-value
 returns-clause-value g c =
-    let within : c.in_ok-place.place < length c.self.inside.entries.items = omega (arith, last_within (is_same_name c.args.name.now) c.self.inside.names.names c.in_ok-place.place (sym c.in_ok-place.ensures.place), c.self.invariant.as_many) in
+    let within : c.in_ok-place.place < length c.self.inside.entries.items =
+    omega (
+      arith,
+      last_within (is_same_name c.args.name.now) c.self.inside.names.names c.in_ok-place.place (sym c.in_ok-place.ensures.place),
+      c.self.invariant.as_many,
+    ) in
     sym (seen_some c.self.inside.names c.self.inside.entries.items _ c.args.name.now c.in_ok-place.place _ c.self.view_is c.self.invariant.as_many (sym c.in_ok-place.ensures.place) (slice_get_read _ _ _ _ refl within c.index.ensures))
 
 pub returns-clause-looks : goal.returns-clause-looks

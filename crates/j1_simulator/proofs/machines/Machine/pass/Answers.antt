@@ -6,4 +6,5 @@ use Rattle.j1_simulator.proofs.machines.Machine.pass.Goals as goal
 
 pub returns : goal.returns
 returns c =
-    steps_ok (the_view c.self.inside) c.args.self.now _ _ _ _ _ _ _ c.self.view_is (search rules) refl (c.pass.ensures (key_of c.self.inside.given) c.self.inside.fence.data_start) c.effect_of-effect.ensures.effect c.count.ensures (search rules) refl
+    steps_ok (the_view c.self.inside) c.args.self.now _ _ _ _ _ _ _ c.self.view_is (search rules) refl
+    (c.pass.ensures (key_of c.self.inside.given) c.self.inside.fence.data_start) c.effect_of-effect.ensures.effect c.count.ensures (search rules) refl
