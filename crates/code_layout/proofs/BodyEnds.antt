@@ -10,7 +10,7 @@ use Rattle.forth_program.specs.Tail.{ends_body}
 use Rattle.word_laws.specs.Rings.{OpenConfiguration, BeforeEach}
 use Rattle.word_laws.specs.Bounds.{StaysWithin}
 use Rattle.forth_program.specs.Cells.{AreCells, IsWorld}
-use Rattle.word_laws.specs.Standing.{return_places, standing_at_depths, HasCome}
+use Rattle.word_laws.specs.Standing.{return_places, standing_at_depths, HasCome, machine_at}
 use Rattle.forth_program.specs.Heights.{end_peak}
 use Rattle.code_layout.proofs.Work.{ahead, steps_left, unfinished, Returns, ends_at_return, Waits, Pends, Called, Frames}
 use Rattle.code_layout.proofs.Machine.{Laws, Runs, narrower, wider, runs_one}
@@ -26,20 +26,20 @@ module _ (laws : Laws) (p : SourceProgram) (code : List ℕ) (place : ℕ → �
   at_end w fs c = record { work = w; entries = []; callers = fs; cells = c; world = world }
 
   abbrev There : List ℕ → List (Option ℕ) → OpenConfiguration
-  There c base = standing_at_depths code pc c base data_above return_above world
+  There c base = standing_at_depths (machine_at code pc base data_above return_above) c world
 
   -- MAIN returns to the header, which halts
   main_ends : (c : List ℕ) → Returns code place p pc → length c + 2 ≤ high → 1 ≤ return_high → Halts laws p code place size (There c (Some 2 ∷ [])) 1 high return_high (Halted 0) world
   main_ends c returns room back =
       let v = There c (Some 2 ∷ []) in
-      let v' = standing_at_depths code 1 c [] data_above (Some 2 ∷ return_above) world in
-      let leads = laws.returns p.data_start 2 pc code c [] data_above return_above world returns in
+      let v' = standing_at_depths (machine_at code 1 [] data_above (Some 2 ∷ return_above)) c world in
+      let leads = laws.returns p.data_start 2 (machine_at code pc [] data_above return_above) c world returns in
       let first : Runs p.data_start high return_high 1 v v' = runs_one laws p.data_start (length c) 1 high return_high v v' (omega arith) back leads in
       let halts =
-      subst (λ d. HasCome code 4 [] (run open_storage d 3 (standing_at_depths code 1 c [] data_above (Some 2 ∷ return_above) world)) (Ends (Halted 0) world)
-      × BeforeEach (StaysWithin (length c) (length c + 2) 0 0) d 3 (standing_at_depths code 1 c [] data_above (Some 2 ∷ return_above) world)
-      × StaysWithin (length c) (length c + 2) 0 0 (run open_storage d 3 (standing_at_depths code 1 c [] data_above (Some 2 ∷ return_above) world))) starts
-      (laws.halts code 1 4 (at_end [] [] c) [] data_above (Some 2 ∷ return_above) (size ∙ ap (λ d. d / 2) (sym starts)) all.halt) in
+      subst (λ d. HasCome code 4 [] (run open_storage d 3 (standing_at_depths (machine_at code 1 [] data_above (Some 2 ∷ return_above)) c world)) (Ends (Halted 0) world)
+      × BeforeEach (StaysWithin (length c) (length c + 2) 0 0) d 3 (standing_at_depths (machine_at code 1 [] data_above (Some 2 ∷ return_above)) c world)
+      × StaysWithin (length c) (length c + 2) 0 0 (run open_storage d 3 (standing_at_depths (machine_at code 1 [] data_above (Some 2 ∷ return_above)) c world))) starts
+      (laws.halts (machine_at code 1 [] data_above (Some 2 ∷ return_above)) 4 (at_end [] [] c) (size ∙ ap (λ d. d / 2) (sym starts)) all.halt) in
       let joined : run open_storage p.data_start 4 v ≡ run open_storage p.data_start 3 v' = laws.runs_join 1 3 p.data_start v ∙ ap (run open_storage p.data_start 3) first.makes in
       let come = subst (λ u. HasCome code 4 [] u (Ends (Halted 0) world)) (sym joined) halts.0 in
       record {
@@ -62,14 +62,14 @@ module _ (laws : Laws) (p : SourceProgram) (code : List ℕ) (place : ℕ → �
       let back' : suc (length (return_places f.entries below)) ≤ return_high = omega (arith, ap length waits.returns) in
       let v = There c (Some (2 * following waits.pc) ∷ return_places f.entries below) in
       let after : State = record { work = f.work; entries = f.entries; callers = fs; cells = c; world = world } in
-      let leads = laws.returns p.data_start (2 * following waits.pc) pc code c (return_places f.entries below) data_above return_above world returns in
+      let leads = laws.returns p.data_start (2 * following waits.pc) (machine_at code pc (return_places f.entries below) data_above return_above) c world returns in
       let goes = runs_one laws p.data_start (length c) (suc (length (return_places f.entries below))) high return_high v
-      (standing_at_depths code (2 * following waits.pc / 2 % 0x2000) c (return_places f.entries below) data_above (Some (2 * following waits.pc) ∷ return_above) world) room back' leads in
+      (standing_at_depths (machine_at code (2 * following waits.pc / 2 % 0x2000) (return_places f.entries below) data_above (Some (2 * following waits.pc) ∷ return_above)) c world) room back' leads in
       let goes' =
       subst
       (λ q.
       Runs p.data_start high return_high 1 (There c (Some (2 * following waits.pc) ∷ return_places f.entries below))
-      (standing_at_depths code q c (return_places f.entries below) data_above (Some (2 * following waits.pc) ∷ return_above) world))
+      (standing_at_depths (machine_at code q (return_places f.entries below) data_above (Some (2 * following waits.pc) ∷ return_above)) c world))
       (back_to waits.pc) goes in
       subst (λ b. Comes laws p code place size (There c b) 1 now high return_high (record { work = f.work; entries = f.entries; callers = fs; cells = c; world = world })) (sym waits.returns)
       (comes laws p code place size v 1 (following waits.pc) 1 now high return_high waits.out after below data_above (Some (2 * following waits.pc) ∷ return_above) (omega arith) (omega arith) due goes'
@@ -93,7 +93,8 @@ module _ (laws : Laws) (p : SourceProgram) (code : List ℕ) (place : ℕ → �
 
   pub body_ends : (fs : List Frame) (w : List Work) (es : List Entry) (c : List ℕ) (base : List (Option ℕ)) → Frames code place p fs base →
       unfinished fs ≤ now → Returns code place p pc → AreCells c → length c + end_peak fs ≤ high → length (return_places es base) ≤ return_high →
-      Follows laws p code place size (standing_at_depths code pc c (return_places es base) data_above return_above world) 1 now high return_high (unwound es fs (record { work = w; entries = es; callers = fs; cells = c; world = world }))
+      Follows laws p code place size (standing_at_depths (machine_at code pc (return_places es base) data_above return_above) c world) 1 now high return_high
+      (unwound es fs (record { work = w; entries = es; callers = fs; cells = c; world = world }))
   body_ends fs w (entry ∷ es) c base frames due returns fc room back = tt
   body_ends [] w [] c base frames due returns fc room back =
       let back' : 1 ≤ return_high = omega (arith, ap length frames) in

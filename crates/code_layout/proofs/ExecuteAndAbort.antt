@@ -25,7 +25,7 @@ use Rattle.word_laws.specs.Bounds.{StaysWithin}
 use Rattle.forth_program.specs.Cells.{AreCells, AreEntries, IsWorld}
 use Rattle.word_laws.specs.Control.{HoldsInstruction}
 use Rattle.word_laws.specs.Numbers.{number_cells}
-use Rattle.word_laws.specs.Standing.{data_places, standing_at_depths, standing_as, EndedIn, HasCome, StandIn}
+use Rattle.word_laws.specs.Standing.{data_places, standing_at_depths, standing_as, EndedIn, HasCome, StandIn, machine_at}
 use Rattle.word_laws.specs.Words.{return_need}
 use Rattle.forth_program.specs.Run.{lacks}
 use Rattle.code_layout.specs.Layout.{branch_to, call_to, return_cell, execute_cells, abort_cells}
@@ -55,7 +55,7 @@ module _ (laws : Laws) (p : SourceProgram) (code : List ℕ) (place : ℕ → �
     here es c = record { work = []; entries = es; callers = []; cells = c; world = world }
 
     abbrev at_place : ℕ → List Entry → List ℕ → List (Option ℕ) → List (Option ℕ) → OpenConfiguration
-    at_place q es c above above' = standing_as (here es c) code q (Some 2 ∷ []) above above'
+    at_place q es c above above' = standing_as (here es c) (machine_at code q (Some 2 ∷ []) above above')
 
     -- one number
     one_number : (value pc next : ℕ) (es : List Entry) (c : List ℕ) (above above' : List (Option ℕ)) → value < 32768 → StandIn code pc (number_cells value) next → length c + 1 ≤ high → length (places_below es) ≤ return_high →
@@ -78,13 +78,13 @@ module _ (laws : Laws) (p : SourceProgram) (code : List ℕ) (place : ℕ → �
         Runs p.data_start high return_high 1 (at_place pc es (0 ∷ c) above above') (at_place target es c (top (data_places c) ∷ above) above')
     branched target pc es c above above' holds room back =
         runs_one laws p.data_start (suc (length c)) (length (places_below es)) high return_high (at_place pc es (0 ∷ c) above above') _ (omega arith) back
-        (laws.branches p.data_start target pc code c (places_below es) above above' world holds)
+        (laws.branches p.data_start target (machine_at code pc (places_below es) above above') c world holds)
 
     passed : (target pc n : ℕ) (es : List Entry) (c : List ℕ) (above above' : List (Option ℕ)) → HoldsInstruction code pc (Branch target) → length c + 1 ≤ high → length (places_below es) ≤ return_high →
         Runs p.data_start high return_high 1 (at_place pc es (suc n ∷ c) above above') (at_place (following pc) es c (top (data_places c) ∷ above) above')
     passed target pc n es c above above' holds room back =
         runs_one laws p.data_start (suc (length c)) (length (places_below es)) high return_high (at_place pc es (suc n ∷ c) above above') _ (omega arith) back
-        (laws.passes p.data_start target pc n code c (places_below es) above above' world holds)
+        (laws.passes p.data_start target n (machine_at code pc (places_below es) above above') c world holds)
 
     halting : (status : ℕ) → status < 256 → store 16388 status world ≡ Stops (Halted status) world
     halting status low = let same : status % 256 ≡ status = omega arith in ap (λ d. store_by world status (access_at d true 16388)) starts ∙ ap (λ n. Stops (Halted n) world) same
@@ -110,7 +110,7 @@ module _ (laws : Laws) (p : SourceProgram) (code : List ℕ) (place : ℕ → �
               StaysWithin (length s.cells - (entry_of Store).need) (length s.cells + (entry_of Store).peak)
               (length (places_below es) - return_need Store) (length (places_below es) + (entry_of Store).back)
               (run open_storage d 2 (at_place pc es (16388 ∷ status ∷ c) above above'))) starts
-              (laws.word_ends p Store code pc next s (Some 2 ∷ []) above above' (Halted status) world ready e)),
+              (laws.word_ends p Store (machine_at code pc (Some 2 ∷ []) above above') next s (Halted status) world ready e)),
         )
 
     -- a status is put on the cells and stored at the halt port
@@ -200,7 +200,7 @@ module _ (laws : Laws) (p : SourceProgram) (code : List ℕ) (place : ℕ → �
       return_high = length (places_below es) + 8 - 1
 
       abbrev v : OpenConfiguration
-      v = standing_at_depths code at (u ∷ a ∷ suc m ∷ c) (places_below es) data_above return_above w
+      v = standing_at_depths (machine_at code at (places_below es) data_above return_above) (u ∷ a ∷ suc m ∷ c) w
 
       -- before TYPE
       up_to_type : (up : List (Option ℕ)) × (up' : List (Option ℕ)) × Runs p.data_start high return_high 5 v (at_place high return_high w fits starts (at + 5) es (u ∷ a ∷ c) up up')
@@ -240,7 +240,7 @@ module _ (laws : Laws) (p : SourceProgram) (code : List ℕ) (place : ℕ → �
       cells = (fc.0, (fc.1.0, fc.1.1.1))
 
       abbrev called : OpenConfiguration
-      called = standing_at_depths code type_at (u ∷ a ∷ c) (places_below below) up (rest up') w
+      called = standing_at_depths (machine_at code type_at (places_below below) up (rest up')) (u ∷ a ∷ c) w
 
       typed : (w' : World) → Returned p.data_start code called (29 + 80 * u) (length (u ∷ a ∷ c) + 8) (length (places_below below) + 6 - 1) below c w' → Stopped p.data_start code v (38 + 80 * u) high return_high (Halted 2) w'
       typed w' r =
@@ -256,7 +256,7 @@ module _ (laws : Laws) (p : SourceProgram) (code : List ℕ) (place : ℕ → �
           subst
           (λ q.
           Runs p.data_start high return_high (1 + r.count + 1) (at_place high return_high w fits starts (at + 5) es (u ∷ a ∷ c) up up')
-          (standing_at_depths code q c (places_below es) r.above (Some (2 * following (at + 5)) ∷ r.above') w')) six back in
+          (standing_at_depths (machine_at code q (places_below es) r.above (Some (2 * following (at + 5)) ∷ r.above')) c w')) six back in
           halts_with high return_high w' r.world_is r.starts 2 (at + 6) (at + 7) (at + 8) (at + 10) (5 + (1 + r.count + 1)) (38 + 80 * u) v es c r.above
           (Some (2 * following (at + 5)) ∷ r.above') (omega arith) parts.status parts.port parts.store fe fc.1.1.1 (omega arith) (omega arith) (omega arith)
           (runs_then laws p.data_start high return_high 5 (1 + r.count + 1) v (at_place high return_high w fits starts (at + 5) es (u ∷ a ∷ c) up up') there up_to_type.2 back')
@@ -301,12 +301,12 @@ module _ (laws : Laws) (p : SourceProgram) (code : List ℕ) (place : ℕ → �
           fits starts)
 
     false_flag : (es : List Entry) (u a : ℕ) (c : List ℕ) (data_above return_above : List (Option ℕ)) (w : World) → AreEntries es → AreCells (u ∷ a ∷ 0 ∷ c) → IsWorld w → w.data_start ≡ p.data_start →
-        Returned p.data_start code (standing_at_depths code at (u ∷ a ∷ 0 ∷ c) (places_below es) data_above return_above w) 38 (length (u ∷ a ∷ 0 ∷ c) + 9) (length (places_below es) + 8 - 1) es c w
+        Returned p.data_start code (standing_at_depths (machine_at code at (places_below es) data_above return_above) (u ∷ a ∷ 0 ∷ c) w) 38 (length (u ∷ a ∷ 0 ∷ c) + 9) (length (places_below es) + 8 - 1) es c w
     false_flag es u a c data_above return_above w fe fc fits starts =
         let parts = abort_parts in
         let high = length (u ∷ a ∷ 0 ∷ c) + 9 in
         let return_high = length (places_below es) + 8 - 1 in
-        let v = standing_at_depths code at (u ∷ a ∷ 0 ∷ c) (places_below es) data_above return_above w in
+        let v = standing_at_depths (machine_at code at (places_below es) data_above return_above) (u ∷ a ∷ 0 ∷ c) w in
         let r = some_words high return_high w fits starts (ToR ∷ ToR ∷ []) es (Cell a ∷ Cell u ∷ es) (u ∷ a ∷ 0 ∷ c) (0 ∷ c) at (at + 2) data_above return_above refl refl (grind arith) parts.pushes fe fc in
         let b = branched high return_high w fits starts (at + 10) (at + 2) (Cell a ∷ Cell u ∷ es) c r.0 r.1 parts.branch (omega arith) (omega arith) in
         let d =
@@ -332,7 +332,7 @@ module _ (laws : Laws) (p : SourceProgram) (code : List ℕ) (place : ℕ → �
         }
 
     flagged : (es : List Entry) (u a flag : ℕ) (c : List ℕ) (data_above return_above : List (Option ℕ)) (w : World) → AreEntries es → AreCells (u ∷ a ∷ flag ∷ c) → IsWorld w → w.data_start ≡ p.data_start →
-        Answers p.data_start code (standing_at_depths code at (u ∷ a ∷ flag ∷ c) (places_below es) data_above return_above w) (abort_price u flag)
+        Answers p.data_start code (standing_at_depths (machine_at code at (places_below es) data_above return_above) (u ∷ a ∷ flag ∷ c) w) (abort_price u flag)
         (length (u ∷ a ∷ flag ∷ c) + 9) (length (places_below es) + 8 - 1) es (abort_reply u a flag c w)
     flagged es u a zero c data_above return_above w fe fc fits starts = false_flag es u a c data_above return_above w fe fc fits starts
     flagged es u a (suc m) c data_above return_above w fe fc fits starts = true_flag es u a m c data_above return_above w fe fc fits starts
@@ -408,7 +408,7 @@ module _ (laws : Laws) (p : SourceProgram) (code : List ℕ) (place : ℕ → �
       execute_returns = length (places_below es) + 1
 
       abbrev begins : OpenConfiguration
-      begins = standing_at_depths code at (t ∷ c) (places_below es) data_above return_above w
+      begins = standing_at_depths (machine_at code at (places_below es) data_above return_above) (t ∷ c) w
 
       abbrev then_at : ℕ → List Entry → List ℕ → List (Option ℕ) → List (Option ℕ) → OpenConfiguration
       then_at q es c above above' = at_place execute_high execute_returns w fits starts q es c above above'
@@ -461,20 +461,20 @@ module _ (laws : Laws) (p : SourceProgram) (code : List ℕ) (place : ℕ → �
           subst
           (λ q.
           Runs p.data_start execute_high execute_returns 1 (then_at (at + 10) (Cell (2 * sum_of t 7 % 65536) ∷ es) c f.0 f.1)
-          (standing_at_depths code q c (places_below es) f.0 (Some (2 * sum_of t 7 % 65536) ∷ f.1) w)) cell
+          (standing_at_depths (machine_at code q (places_below es) f.0 (Some (2 * sum_of t 7 % 65536) ∷ f.1)) c w)) cell
           (runs_one laws p.data_start (length c) (suc (length (places_below es))) execute_high execute_returns
           (then_at (at + 10) (Cell (2 * sum_of t 7 % 65536) ∷ es) c f.0 f.1) _ (omega arith) (omega arith)
-          (laws.returns p.data_start (2 * sum_of t 7 % 65536) (at + 10) code c (places_below es) f.0 f.1 w parts.returns)) in
+          (laws.returns p.data_start (2 * sum_of t 7 % 65536) (machine_at code (at + 10) (places_below es) f.0 f.1) c w parts.returns)) in
           let j =
           runs_one laws p.data_start (length c) (length (places_below es)) execute_high execute_returns
-          (standing_at_depths code (8 + k) c (places_below es) f.0 (Some (2 * sum_of t 7 % 65536) ∷ f.1) w)
-          (standing_at_depths code token.0 c (places_below es) f.0 (Some (2 * sum_of t 7 % 65536) ∷ f.1) w) (omega arith) (omega arith)
-          (laws.jumps p.data_start token.0 (8 + k) code c (places_below es) f.0 (Some (2 * sum_of t 7 % 65536) ∷ f.1) w token.1) in
+          (standing_at_depths (machine_at code (8 + k) (places_below es) f.0 (Some (2 * sum_of t 7 % 65536) ∷ f.1)) c w)
+          (standing_at_depths (machine_at code token.0 (places_below es) f.0 (Some (2 * sum_of t 7 % 65536) ∷ f.1)) c w) (omega arith) (omega arith)
+          (laws.jumps p.data_start token.0 (machine_at code (8 + k) (places_below es) f.0 (Some (2 * sum_of t 7 % 65536) ∷ f.1)) c w token.1) in
           let at5 = then_at (at + 5) es (t ∷ c) (top (data_places (t ∷ c)) ∷ a.0) a.1 in
           let at6 = then_at (at + 6) es (7 ∷ t ∷ c) d.0 d.1 in
           let at10 = then_at (at + 10) (Cell (2 * sum_of t 7 % 65536) ∷ es) c f.0 f.1 in
-          let at_jump = standing_at_depths code (8 + k) c (places_below es) f.0 (Some (2 * sum_of t 7 % 65536) ∷ f.1) w in
-          let there = standing_at_depths code token.0 c (places_below es) f.0 (Some (2 * sum_of t 7 % 65536) ∷ f.1) w in
+          let at_jump = standing_at_depths (machine_at code (8 + k) (places_below es) f.0 (Some (2 * sum_of t 7 % 65536) ∷ f.1)) c w in
+          let there = standing_at_depths (machine_at code token.0 (places_below es) f.0 (Some (2 * sum_of t 7 % 65536) ∷ f.1)) c w in
           record {
             count = 12;
             at = token.0;
@@ -494,13 +494,13 @@ module _ (laws : Laws) (p : SourceProgram) (code : List ℕ) (place : ℕ → �
           compares_true k is lt = let e : difference_of t 1 < count = omega (arith, is) in grind (arith, nat_tests)
 
     finds_token : (es : List Entry) (t : ℕ) (node : Node) (c : List ℕ) (data_above return_above : List (Option ℕ)) (w : World) → token_of p t ≡ Some node → AreEntries es → AreCells (t ∷ c) → IsWorld w → w.data_start ≡ p.data_start →
-        Found code place p (standing_at_depths code at (t ∷ c) (places_below es) data_above return_above w) node c es w
+        Found code place p (standing_at_depths (machine_at code at (places_below es) data_above return_above) (t ∷ c) w) node c es w
     finds_token es zero node c data_above return_above w found fe fc fits starts = let f : None ≡ Some node = found in cc
     finds_token es (suc k) node c data_above return_above w found fe fc fits starts =
         one_found es (suc k) c data_above return_above w fe fc fits starts k node (omega arith) (omega (arith, get_within p.tokens k node found, counted_tokens)) found
 
     fails_token : (es : List Entry) (t : ℕ) (c : List ℕ) (data_above return_above : List (Option ℕ)) (w : World) → token_of p t ≡ None → AreEntries es → AreCells (t ∷ c) → IsWorld w → w.data_start ≡ p.data_start →
-        Stopped p.data_start code (standing_at_depths code at (t ∷ c) (places_below es) data_above return_above w) 20 (length c + 3) (length (places_below es) + 1) (Halted 13) w
+        Stopped p.data_start code (standing_at_depths (machine_at code at (places_below es) data_above return_above) (t ∷ c) w) 20 (length c + 3) (length (places_below es) + 1) (Halted 13) w
     fails_token es zero c data_above return_above w found fe fc fits starts =
         none_found es 0 c data_above return_above w fe fc fits starts (let e : count ≤ difference_of 0 1 = omega arith in grind (arith, nat_tests))
     fails_token es (suc k) c data_above return_above w found fe fc fits starts =

@@ -22,7 +22,7 @@ use Rattle.word_laws.specs.Bounds.{StaysWithin}
 use Rattle.forth_program.specs.Cells.{AreCells, AreEntries, IsWorld}
 use Rattle.word_laws.specs.Control.{HoldsInstruction}
 use Rattle.word_laws.specs.Numbers.{number_cells}
-use Rattle.word_laws.specs.Standing.{return_places, standing_at_depths, standing_as, EndedIn, StandIn}
+use Rattle.word_laws.specs.Standing.{return_places, standing_at_depths, standing_as, EndedIn, StandIn, machine_at}
 use Rattle.word_laws.specs.Words.{stands_plain, ChangesBy, LeavesBy}
 use Rattle.forth_program.specs.Heights.{address_height, peak_of, back_of, execute_back, token_back, DepthFits}
 use Rattle.code_layout.specs.Agreement.{Shows}
@@ -108,7 +108,7 @@ module _ (laws : Laws) (p : SourceProgram) (code : List ℕ) (place : ℕ → �
 
       module _ (c : List ℕ) (above above' : List (Option ℕ)) (fc : AreCells c) where
         abbrev At : ℕ → List ℕ → OpenConfiguration
-        At q c' = standing_at_depths code q c' base' above above' world
+        At q c' = standing_at_depths (machine_at code q base' above above') c' world
 
         -- a definition stands there already
         call_in_hand : (d at : ℕ) → d < length p.bodies → at ≡ place d → Follows laws p code place size (At at c) 2 then_now high return_high (Goes (called p d (here w es c)))
@@ -121,7 +121,7 @@ module _ (laws : Laws) (p : SourceProgram) (code : List ℕ) (place : ℕ → �
               base = base';
               data_above = above;
               return_above = above';
-              runs = record { makes = ap (λ q. standing_at_depths code q c base' above above' world) is; bounds = tt };
+              runs = record { makes = ap (λ q. standing_at_depths (machine_at code q base' above above') c world) is; bounds = tt };
               meets = record { stands = all.bodies d lt; loops = loops_before code place p (body_of p d) None [] refl; frames = frames'; cells = fc; entries = tt; world = fits; starts = starts };
               cheap = omega arith;
               progress = omega (arith, bound);
@@ -131,7 +131,7 @@ module _ (laws : Laws) (p : SourceProgram) (code : List ℕ) (place : ℕ → �
         back_to_work : (q : ℕ) (c' : List ℕ) (up up' : List (Option ℕ)) (base'' : List (Option ℕ)) (world' : World) (fits' : IsWorld world')
             (starts' : world'.data_start ≡ p.data_start) → Returns code place p q → Frames code place p over base'' → AreCells c' → length c' ≤ high →
             length base'' ≤ return_high →
-            Follows laws p code place size (standing_at_depths code q c' base'' up up' world') 1 then_now high return_high (Goes (record { work = w; entries = es; callers = fs; cells = c'; world = world' }))
+            Follows laws p code place size (standing_at_depths (machine_at code q base'' up up') c' world') 1 then_now high return_high (Goes (record { work = w; entries = es; callers = fs; cells = c'; world = world' }))
         back_to_work q c' up up' base'' world' fits' starts' returns frames'' fc' room back =
             body_ends laws p code place size all high return_high q then_now world' fits' starts' up up' over [] [] c' base'' frames'' owed returns fc' (omega arith) back
 
@@ -140,7 +140,8 @@ module _ (laws : Laws) (p : SourceProgram) (code : List ℕ) (place : ℕ → �
         literal_in_hand value at next small stands returns room back =
             let short = number_short value in
             let r = number_runs laws p code place size high return_high at then_now None over world fits starts base' above above' frames' owed value next [] c small stands room (omega arith) in
-            follows_after laws p code place size (At at c) (standing_at_depths code next (value ∷ c) base' r.0 r.1 world) (length (number_cells value)) 1 3 then_now high return_high (Goes (here w es (value ∷ c))) (omega arith) r.2
+            follows_after laws p code place size (At at c) (standing_at_depths (machine_at code next base' r.0 r.1) (value ∷ c) world)
+            (length (number_cells value)) 1 3 then_now high return_high (Goes (here w es (value ∷ c))) (omega arith) r.2
             (back_to_work next (value ∷ c) r.0 r.1 base' world fits starts returns frames' (small, fc) (omega arith) (omega arith))
 
         child_in_hand : (d address at next : ℕ) → address < 32768 → StandIn code at (number_cells address) next → d < length p.bodies → HoldsInstruction code next (Jump (place d)) → length c + 1 ≤ high → length base' ≤ return_high →
@@ -150,10 +151,10 @@ module _ (laws : Laws) (p : SourceProgram) (code : List ℕ) (place : ℕ → �
             let short = number_short address in
             let some = number_some address in
             let r = number_runs laws p code place size high return_high at then_now None over world fits starts base' above above' frames' owed address next [] c cell stands room (omega arith) in
-            let middle = standing_at_depths code next (address ∷ c) base' r.0 r.1 world in
+            let middle = standing_at_depths (machine_at code next base' r.0 r.1) (address ∷ c) world in
             comes laws p code place size (At at c) (length (number_cells address) + 1) (place d) 3 then_now high return_high None (called p d (here w es (address ∷ c))) base' r.0 r.1 (omega arith) (omega arith) owed
             (runs_then laws p.data_start high return_high (length (number_cells address)) 1 (At at c) middle _ r.2
-            (runs_one laws p.data_start (suc (length c)) (length base') high return_high middle _ (omega arith) (omega arith) (laws.jumps p.data_start (place d) next code (address ∷ c) base' r.0 r.1 world holds)))
+            (runs_one laws p.data_start (suc (length c)) (length base') high return_high middle _ (omega arith) (omega arith) (laws.jumps p.data_start (place d) (machine_at code next base' r.0 r.1) (address ∷ c) world holds)))
             (record { stands = all.bodies d lt; loops = loops_before code place p (body_of p d) None [] refl; frames = frames'; cells = (cell, fc); entries = tt; world = fits; starts = starts })
 
         -- a word, and then the return
@@ -164,7 +165,7 @@ module _ (laws : Laws) (p : SourceProgram) (code : List ℕ) (place : ℕ → �
             let m = f.meets in
             let cheap = f.cheap in
             let same : length f.base ≡ length base' = callers_fit code place p over f.base m.frames ∙ sym (callers_fit code place p over base' frames') in
-            follows_after laws p code place size (At at c) (standing_at_depths code f.to c' f.base f.data_above f.return_above world') f.count 1
+            follows_after laws p code place size (At at c) (standing_at_depths (machine_at code f.to f.base f.data_above f.return_above) c' world') f.count 1
             (word_price word c world + 1) then_now high return_high (Goes (record { work = w; entries = es; callers = fs; cells = c'; world = world' }))
             (omega arith) f.runs
             (back_to_work f.to c' f.data_above f.return_above f.base world' m.world m.starts m.stands m.frames m.cells few (omega arith))
@@ -202,33 +203,33 @@ module _ (laws : Laws) (p : SourceProgram) (code : List ℕ) (place : ℕ → �
           within_routine = omega (arith, ap length same_item_places)
 
           routine_returns : (c' : List ℕ) (world' : World) →
-              Returned p.data_start code (standing_at_depths code at c (places_below item_entries) above above' world) price (length c + peak)
+              Returned p.data_start code (standing_at_depths (machine_at code at (places_below item_entries) above above') c world) price (length c + peak)
               (length (places_below item_entries) + back - 1) item_entries c' world' →
               Follows laws p code place size (At at c) (price + 1) then_now high return_high (Goes (record { work = w; entries = es; callers = fs; cells = c'; world = world' }))
           routine_returns c' world' r =
               let cheap = r.cheap in
               let few = r.few in
               let runs = r.runs in
-              let inside : Runs p.data_start high return_high r.count (At at c) (standing_at_depths code r.to c' base' r.above r.above' world') =
-              subst (λ ps. Runs p.data_start high return_high r.count (standing_at_depths code at c ps above above' world) (standing_at_depths code r.to c' ps r.above r.above' world')) same_item_places
+              let inside : Runs p.data_start high return_high r.count (At at c) (standing_at_depths (machine_at code r.to base' r.above r.above') c' world') =
+              subst (λ ps. Runs p.data_start high return_high r.count (standing_at_depths (machine_at code at ps above above') c world) (standing_at_depths (machine_at code r.to ps r.above r.above') c' world')) same_item_places
               (record {
                 makes = runs.makes;
                 bounds =
                     wider laws p.data_start 0 (length c + peak) 0 (length (places_below item_entries) + back - 1) high return_high r.count
-                    (standing_at_depths code at c (places_below item_entries) above above' world) room within_routine runs.bounds;
+                    (standing_at_depths (machine_at code at (places_below item_entries) above above') c world) room within_routine runs.bounds;
               }) in
-              follows_after laws p code place size (At at c) (standing_at_depths code r.to c' base' r.above r.above' world') r.count 1 (price + 1) then_now high
+              follows_after laws p code place size (At at c) (standing_at_depths (machine_at code r.to base' r.above r.above') c' world') r.count 1 (price + 1) then_now high
               return_high (Goes (record { work = w; entries = es; callers = fs; cells = c'; world = world' })) (omega arith) inside
               (back_to_work r.to c' r.above r.above' base' world' r.world_is r.starts r.returns frames' r.cells (omega arith) (omega arith))
 
           routine_stops : (end : End) (world' : World) →
-              Stopped p.data_start code (standing_at_depths code at c (places_below item_entries) above above' world) price (length c + peak)
+              Stopped p.data_start code (standing_at_depths (machine_at code at (places_below item_entries) above above') c world) price (length c + peak)
               (length (places_below item_entries) + back - 1) end world' →
               Halts laws p code place size (At at c) (price + 1) high return_high end world'
           routine_stops end world' r =
               let cheap = r.cheap in
-              let v = standing_at_depths code at c (places_below item_entries) above above' world in
-              let same : v ≡ At at c = ap (λ ps. standing_at_depths code at c ps above above' world) same_item_places in
+              let v = standing_at_depths (machine_at code at (places_below item_entries) above above') c world in
+              let same : v ≡ At at c = ap (λ ps. standing_at_depths (machine_at code at ps above above') c world) same_item_places in
               record {
                 count = r.count;
                 stop = r.stop;
@@ -246,7 +247,7 @@ module _ (laws : Laws) (p : SourceProgram) (code : List ℕ) (place : ℕ → �
               }
 
           routine_answers : (o : Reply (List ℕ)) →
-              Answers p.data_start code (standing_at_depths code at c (places_below item_entries) above above' world) price (length c + peak)
+              Answers p.data_start code (standing_at_depths (machine_at code at (places_below item_entries) above above') c world) price (length c + peak)
               (length (places_below item_entries) + back - 1) item_entries o →
               Follows laws p code place size (At at c) (price + 1) then_now high return_high (on_cells o (here w es c))
           routine_answers (Gives c' world') r = routine_returns c' world' r
@@ -302,14 +303,14 @@ module _ (laws : Laws) (p : SourceProgram) (code : List ℕ) (place : ℕ → �
     state w es c = record { work = w; entries = es; callers = fs; cells = c; world = world }
 
     abbrev There : List Entry → List ℕ → OpenConfiguration
-    There es c = standing_as (state [] es c) code pc base data_above return_above
+    There es c = standing_as (state [] es c) (machine_at code pc base data_above return_above)
 
     -- one instruction leads into the code of EXECUTE, over the item's frame
     module _ (at : ℕ) (w : List Work) (es : List Entry) (t : ℕ) (c : List ℕ) (executor : IsExecutor code place p at) (fc : AreCells (t ∷ c))
         (base' : List (Option ℕ)) (frames' : Frames code place p (record { work = w; entries = es } ∷ fs) base')
         (left : unfinished (record { work = w; entries = es } ∷ fs) ≤ now)
         (up' : List (Option ℕ))
-        (entered : Runs p.data_start high return_high 1 (There es (t ∷ c)) (standing_at_depths code at (t ∷ c) base' data_above up' world))
+        (entered : Runs p.data_start high return_high 1 (There es (t ∷ c)) (standing_at_depths (machine_at code at base' data_above up') (t ∷ c) world))
         (height : length base' ≡ length (return_places es base) + address_height (ends_body w))
         (room : length (t ∷ c) + 4 ≤ high) (back : length (return_places es base) + 3 ≤ return_high) where
       abbrev below : List Entry
@@ -322,10 +323,10 @@ module _ (laws : Laws) (p : SourceProgram) (code : List ℕ) (place : ℕ → �
       below_are = (flattened laws p code place size (record { work = w; entries = es } ∷ fs) base' frames').2
 
       abbrev in_stub : OpenConfiguration
-      in_stub = standing_at_depths code at (t ∷ c) (places_below below) data_above up' world
+      in_stub = standing_at_depths (machine_at code at (places_below below) data_above up') (t ∷ c) world
 
       called_stub : Runs p.data_start high return_high 1 (There es (t ∷ c)) in_stub
-      called_stub = subst (λ ps. Runs p.data_start high return_high 1 (There es (t ∷ c)) (standing_at_depths code at (t ∷ c) ps data_above up' world)) (sym same_places) entered
+      called_stub = subst (λ ps. Runs p.data_start high return_high 1 (There es (t ∷ c)) (standing_at_depths (machine_at code at ps data_above up') (t ∷ c) world)) (sym same_places) entered
 
       few_kept : (tail : Bool) → address_height tail ≤ 1
       few_kept true = omega arith
@@ -364,9 +365,9 @@ module _ (laws : Laws) (p : SourceProgram) (code : List ℕ) (place : ℕ → �
           let cheap = r.cheap in
           let one = r.some in
           let runs = r.runs in
-          let there = standing_at_depths code r.at c base' r.above r.above' world in
+          let there = standing_at_depths (machine_at code r.at base' r.above r.above') c world in
           let inside : Runs p.data_start high return_high r.count in_stub there =
-          subst (λ ps. Runs p.data_start high return_high r.count in_stub (standing_at_depths code r.at c ps r.above r.above' world)) same_places
+          subst (λ ps. Runs p.data_start high return_high r.count in_stub (standing_at_depths (machine_at code r.at ps r.above r.above') c world)) same_places
           (record { makes = runs.makes; bounds = wider laws p.data_start 0 (length c + 3) 0 (length (places_below below) + 1) high return_high r.count in_stub (omega arith) within runs.bounds }) in
           record {
             after = state (Todo node ∷ w) es c;
@@ -405,7 +406,7 @@ module _ (laws : Laws) (p : SourceProgram) (code : List ℕ) (place : ℕ → �
         (base, subst (λ tail. Called code place p tail (record { work = w; entries = es }) (return_places es base) base) (sym e) (record { out = out; returns = refl; loops = l; few = few; entries = fe }), frames)
         (omega (arith, left)) return_above
         (runs_one laws p.data_start (suc (length c)) (length (return_places es base)) high return_high (There es (t ∷ c)) _ (omega arith) (omega arith)
-        (laws.jumps p.data_start at pc code (t ∷ c) (return_places es base) data_above return_above world holds))
+        (laws.jumps p.data_start at (machine_at code pc (return_places es base) data_above return_above) (t ∷ c) world holds))
         (omega (arith, kept)) room back (token_of p t) refl
     execute_follows false at w es (t ∷ c) e holds executor l n few fe fc room back =
         let left : steps_left (ends_body w) w ≡ 0 = ap (λ tail. steps_left tail w) e in
@@ -418,5 +419,5 @@ module _ (laws : Laws) (p : SourceProgram) (code : List ℕ) (place : ℕ → �
         )
         (omega (arith, left)) (rest return_above)
         (runs_one laws p.data_start (suc (length c)) (length (return_places es base)) high return_high (There es (t ∷ c)) _ (omega arith) (omega arith)
-        (laws.calls p.data_start at pc code (t ∷ c) (return_places es base) data_above return_above world holds.0))
+        (laws.calls p.data_start at (machine_at code pc (return_places es base) data_above return_above) (t ∷ c) world holds.0))
         (omega (arith, kept)) room back (token_of p t) refl

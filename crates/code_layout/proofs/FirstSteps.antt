@@ -14,7 +14,7 @@ use Rattle.forth_program.specs.Step.{IsQDo, IsTurn, IsOf, IsEndOf, IsEndCase, Is
 use Rattle.forth_program.specs.Price.{word_price, first_price, step_price}
 use Rattle.forth_program.specs.Cells.{AreCells, AreEntries, IsWorld}
 use Rattle.word_laws.specs.Control.{HoldsInstruction}
-use Rattle.word_laws.specs.Standing.{return_places, standing_as}
+use Rattle.word_laws.specs.Standing.{return_places, standing_as, machine_at}
 use Rattle.forth_program.specs.Heights.{peak_of, back_of, DepthFits}
 use Rattle.code_layout.proofs.Work.{ahead, unfinished, Placed, Stands, Loops, loops_before, stands_before, stands_to, back, opens, Frames, Meets}
 use Rattle.code_layout.proofs.Machine.{Laws}
@@ -36,7 +36,7 @@ module _ (laws : Laws) (p : SourceProgram) (code : List ℕ) (place : ℕ → �
     if_follows : (first second : Nodes) (after w : List Work) (es : List Entry) (c : List ℕ) →
         Stands code place p out pc (back code place p (IsIf first second after)) → Loops code place p out after → AreEntries es → AreCells c → length c ≤ high →
         length (return_places es base) ≤ return_high →
-        Follows laws p code place size (standing_as (here [] es c) code pc base data_above return_above) 1 now high return_high (act p (IsIf first second after) (here w es c))
+        Follows laws p code place size (standing_as (here [] es c) (machine_at code pc base data_above return_above)) 1 now high return_high (act p (IsIf first second after) (here w es c))
     if_follows first Empty after w es c h l fe fc room back =
         flag_follows laws p code place size high return_high pc now out fs world fits starts base data_above return_above frames due h.0.0 after (before first after) w es c h.0.1
         h.0.3 l (stands_before code place p first out (following pc) after (λ q. Stands code place p out q after) (λ q k. k) h.0.2 (omega (arith, h.1))) (loops_before code place p first out after l) fe fc room back
@@ -51,8 +51,8 @@ module _ (laws : Laws) (p : SourceProgram) (code : List ℕ) (place : ℕ → �
     -- what follows a first work: the machine follows, or it has come to the code of a token
     abbrev Stepped : First → List Work → List Entry → List ℕ → Type 0
     Stepped f w es c =
-        Follows laws p code place size (standing_as (here [] es c) code pc base data_above return_above) (first_price f c world) now high return_high (act p f (here w es c))
-        ⊎ Executes laws p code place size all (standing_as (here [] es c) code pc base data_above return_above) (first_price f c world) now high return_high f c es base (act p f (here w es c))
+        Follows laws p code place size (standing_as (here [] es c) (machine_at code pc base data_above return_above)) (first_price f c world) now high return_high (act p f (here w es c))
+        ⊎ Executes laws p code place size all (standing_as (here [] es c) (machine_at code pc base data_above return_above)) (first_price f c world) now high return_high f c es base (act p f (here w es c))
 
     -- a word by its own cells, and a library word and EXECUTE by a call
     word_steps : (word : Word) (after w : List Work) (es : List Entry) (c : List ℕ) →
@@ -67,7 +67,7 @@ module _ (laws : Laws) (p : SourceProgram) (code : List ℕ) (place : ℕ → �
         let routine = h.2 in
         inl
         (subst
-        (Follows laws p code place size (standing_as (here [] es c) code pc base data_above return_above) (word_price word c world) now high return_high)
+        (Follows laws p code place size (standing_as (here [] es c) (machine_at code pc base data_above return_above)) (word_price word c world) now high return_high)
         (sym (library_step p word routine.number c es (here after es c) routine.is_library))
         (library_follows laws p code place size high return_high pc now out fs world fits starts base data_above return_above frames due (ends_body after) word h.0 after es c refl h.1 h.2 l n few fe fc room back))
     word_steps word after w es c (inr h) l n few fe fc fit room back =
@@ -135,7 +135,7 @@ module _ (laws : Laws) (p : SourceProgram) (code : List ℕ) (place : ℕ → �
       (length (return_places s.entries base) + back_of (first_work s.work)) (first_work s.work) s.cells s.entries base (step p s)
 
   pub step_follows : (out : Option ℕ) (pc : ℕ) (s : State) (base data_above return_above : List (Option ℕ)) → Meets code place p out pc s base →
-      DepthFits (first_work s.work) s.cells → StepFollows s (standing_as s code pc base data_above return_above) base
+      DepthFits (first_work s.work) s.cells → StepFollows s (standing_as s (machine_at code pc base data_above return_above)) base
   unfolding step
   step_follows out pc s base data_above return_above m fit =
       let o = opens code place p out pc s.work m.stands m.loops in

@@ -19,7 +19,7 @@ use Rattle.forth_program.specs.Cells.{IsWorld}
 use Rattle.word_table.specs.declared.word.Word.{Word}
 use Rattle.word_table.specs.declared.word.Word.TheVariants.{TypeOut}
 use Rattle.word_laws.specs.Control.{HoldsInstruction, halt_cells}
-use Rattle.word_laws.specs.Standing.{standing_as, StandIn}
+use Rattle.word_laws.specs.Standing.{standing_as, StandIn, machine_at}
 use Rattle.code_layout.specs.Layout.{Routine, Definition, Library, Executing, Aborting, type_routine, return_cell, reaches_end, cell_if, size, body_size}
 use Rattle.code_layout.specs.Layout.{nodes_cells, body_cells, bodies_cells, begins_at, bodies_size, execute_cells, abort_cells, tokens_cells, token_size}
 use Rattle.code_layout.specs.Layout.{token_jumps, library_place, execute_place, abort_place, first_place, tokens_place, routine_place, laid_out}
@@ -160,7 +160,7 @@ module _ (laws : Laws) (library : List Nodes) (p : SourceProgram) (built : IsBui
   code_size = filled_length (p.data_start / 2) (laid_out library p).cells built.code_fits
 
   -- the machine begins where the source begins
-  pub begins : (input : List ℕ) → begun (open_start (laid_out library p)) input ≡ standing_as (first_state p input) (code_of library p) 0 [] [] []
+  pub begins : (input : List ℕ) → begun (open_start (laid_out library p)) input ≡ standing_as (first_state p input) (machine_at (code_of library p) 0 [] [] [])
   begins input =
       let even = built.data_start.is_even in
       let most = built.data_start.at_most in

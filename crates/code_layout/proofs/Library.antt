@@ -15,7 +15,7 @@ use Rattle.forth_program.specs.Step.{before, first_work, on_cells}
 use Rattle.forth_program.specs.Run.{steps, end_of, lacks}
 use Rattle.word_laws.specs.Rings.{OpenConfiguration}
 use Rattle.forth_program.specs.Cells.{AreCells, AreEntries, IsWorld}
-use Rattle.word_laws.specs.Standing.{return_places, standing_at_depths, machine_end}
+use Rattle.word_laws.specs.Standing.{return_places, standing_at_depths, machine_end, machine_at}
 use Rattle.code_layout.specs.Numbering.{library_number}
 use Rattle.code_layout.specs.Layout.{Library, routine_place}
 use Rattle.forth_program.specs.SourceTokens.{all_tokens}
@@ -81,7 +81,7 @@ module _ (laws : Laws) (library : List Nodes) (p : SourceProgram) (built : IsBui
       start = record { work = before body []; entries = es; callers = []; cells = c; world = w }
 
       abbrev there : OpenConfiguration
-      there = standing_at_depths code at c (places_below es) data_above return_above w
+      there = standing_at_depths (machine_at code at (places_below es) data_above return_above) c w
 
       abbrev high : ℕ
       high = length c + (entry_of word).peak
@@ -163,7 +163,13 @@ module _ (laws : Laws) (library : List Nodes) (p : SourceProgram) (built : IsBui
             to = stood.to;
             above = stood.data_above;
             above' = stood.return_above;
-            runs = record { makes = stood.is ∙ ap (λ b. standing_at_depths code stood.to c' (return_places es b) stood.data_above stood.return_above w') stood.meets.frames; bounds = r.before high return_high (within m balances) };
+            runs = record {
+              makes =
+                  stood.is
+                  ∙ ap (λ b. standing_at_depths (machine_at code stood.to (return_places es b) stood.data_above stood.return_above) c' w')
+                  stood.meets.frames;
+              bounds = r.before high return_high (within m balances);
+            };
             returns = stood.meets.stands;
             cheap = omega (arith, paid, least, same);
             few = subst (FewLeft high) e (library_few word number c w is);

@@ -19,7 +19,7 @@ use Rattle.word_laws.specs.Rings.{OpenConfiguration, BeforeEach}
 use Rattle.word_laws.specs.Bounds.{StaysWithin}
 use Rattle.forth_program.specs.Cells.{AreCells, AreEntries, IsWorld}
 use Rattle.word_laws.specs.Control.{HoldsInstruction}
-use Rattle.word_laws.specs.Standing.{return_places, standing_at_depths, standing_as, EndedIn}
+use Rattle.word_laws.specs.Standing.{return_places, standing_at_depths, standing_as, EndedIn, machine_at}
 use Rattle.code_layout.specs.Numbering.{library_number}
 use Rattle.code_layout.specs.Library.{routine_price}
 use Rattle.code_layout.proofs.Machine.{Laws, Runs, narrower, wider, runs_then, runs_one}
@@ -83,7 +83,7 @@ module _ (laws : Laws) (p : SourceProgram) (code : List ℕ) (place : ℕ → �
     here w es c = record { work = w; entries = es; callers = fs; cells = c; world = world }
 
     abbrev There : List Entry → List ℕ → OpenConfiguration
-    There es c = standing_as (here [] es c) code pc base data_above return_above
+    There es c = standing_as (here [] es c) (machine_at code pc base data_above return_above)
 
     -- the frame over all entries below, as entries
     abbrev whole : List Entry → List Entry
@@ -98,16 +98,16 @@ module _ (laws : Laws) (p : SourceProgram) (code : List ℕ) (place : ℕ → �
     module _ (at price most peak back : ℕ) (w : List Work) (es : List Entry) (c : List ℕ) (s_dear : price ≤ most) (room : length c + peak ≤ high) where
       -- one instruction leads into a routine, over these entries
       module _ (under : List Entry) (above' : List (Option ℕ))
-          (entered : Runs p.data_start high return_high 1 (There es c) (standing_at_depths code at c (places_below under) data_above above' world))
+          (entered : Runs p.data_start high return_high 1 (There es c) (standing_at_depths (machine_at code at (places_below under) data_above above') c world))
           (within : length (places_below under) + back - 1 ≤ return_high) where
         abbrev inside : OpenConfiguration
-        inside = standing_at_depths code at c (places_below under) data_above above' world
+        inside = standing_at_depths (machine_at code at (places_below under) data_above above') c world
 
         through : (c' : List ℕ) (world' : World) → (r : Returned p.data_start code inside price (length c + peak) (length (places_below under) + back - 1) under c' world') →
-            Runs p.data_start high return_high (1 + r.count) (There es c) (standing_at_depths code r.to c' (places_below under) r.above r.above' world')
+            Runs p.data_start high return_high (1 + r.count) (There es c) (standing_at_depths (machine_at code r.to (places_below under) r.above r.above') c' world')
         through c' world' r =
             let runs = r.runs in
-            runs_then laws p.data_start high return_high 1 r.count (There es c) inside (standing_at_depths code r.to c' (places_below under) r.above r.above' world') entered
+            runs_then laws p.data_start high return_high 1 r.count (There es c) inside (standing_at_depths (machine_at code r.to (places_below under) r.above r.above') c' world') entered
             (record { makes = runs.makes; bounds = wider laws p.data_start 0 (length c + peak) 0 (length (places_below under) + back - 1) high return_high r.count inside room within runs.bounds })
 
         ends : (end : End) (world' : World) → Stopped p.data_start code inside price (length c + peak) (length (places_below under) + back - 1) end world' → Halts laws p code place size (There es c) most high return_high end world'
@@ -153,46 +153,46 @@ module _ (laws : Laws) (p : SourceProgram) (code : List ℕ) (place : ℕ → �
       same_call : places_below under_call ≡ Some (2 * following pc) ∷ return_places es base
       same_call = ap (λ ps. Some (2 * following pc) ∷ ps) (same_whole es)
 
-      called : Runs p.data_start high return_high 1 (There es c) (standing_at_depths code at c (places_below under_call) data_above (rest return_above) world)
+      called : Runs p.data_start high return_high 1 (There es c) (standing_at_depths (machine_at code at (places_below under_call) data_above (rest return_above)) c world)
       called =
-          subst (λ ps. Runs p.data_start high return_high 1 (There es c) (standing_at_depths code at c ps data_above (rest return_above) world)) (sym same_call)
+          subst (λ ps. Runs p.data_start high return_high 1 (There es c) (standing_at_depths (machine_at code at ps data_above (rest return_above)) c world)) (sym same_call)
           (runs_one laws p.data_start (length c) (length (return_places es base)) high return_high (There es c)
-          (standing_at_depths code at c (Some (2 * following pc) ∷ return_places es base) data_above (rest return_above) world) (omega arith) (omega arith)
-          (laws.calls p.data_start at pc code c (return_places es base) data_above return_above world holds))
+          (standing_at_depths (machine_at code at (Some (2 * following pc) ∷ return_places es base) data_above (rest return_above)) c world) (omega arith) (omega arith)
+          (laws.calls p.data_start at (machine_at code pc (return_places es base) data_above return_above) c world holds))
 
       within : length (places_below under_call) + back - 1 ≤ return_high
       within = omega (arith, ap length same_call)
 
       pub back_here : (c' : List ℕ) (world' : World) →
-          (r : Returned p.data_start code (standing_at_depths code at c (places_below under_call) data_above (rest return_above) world) price (length c + peak)
+          (r : Returned p.data_start code (standing_at_depths (machine_at code at (places_below under_call) data_above (rest return_above)) c world) price (length c + peak)
           (length (places_below under_call) + back - 1) under_call c' world') →
-          Runs p.data_start high return_high (1 + r.count + 1) (There es c) (standing_at_depths code (following pc) c' (return_places es base) r.above (Some (2 * following pc) ∷ r.above') world')
+          Runs p.data_start high return_high (1 + r.count + 1) (There es c) (standing_at_depths (machine_at code (following pc) (return_places es base) r.above (Some (2 * following pc) ∷ r.above')) c' world')
       back_here c' world' r =
           let few = r.few in
-          let middle = standing_at_depths code r.to c' (Some (2 * following pc) ∷ return_places es base) r.above r.above' world' in
-          let there = standing_at_depths code (following pc) c' (return_places es base) r.above (Some (2 * following pc) ∷ r.above') world' in
-          let leads = laws.returns p.data_start (2 * following pc) r.to code c' (return_places es base) r.above r.above' world' r.returns in
+          let middle = standing_at_depths (machine_at code r.to (Some (2 * following pc) ∷ return_places es base) r.above r.above') c' world' in
+          let there = standing_at_depths (machine_at code (following pc) (return_places es base) r.above (Some (2 * following pc) ∷ r.above')) c' world' in
+          let leads = laws.returns p.data_start (2 * following pc) (machine_at code r.to (return_places es base) r.above r.above') c' world' r.returns in
           let returned : Runs p.data_start high return_high 1 middle there =
           subst
           (λ q.
           Runs p.data_start high return_high 1
-          (standing_at_depths code r.to c' (Some (2 * following pc) ∷ return_places es base) r.above r.above' world')
-          (standing_at_depths code q c' (return_places es base) r.above (Some (2 * following pc) ∷ r.above') world')) (back_to pc)
+          (standing_at_depths (machine_at code r.to (Some (2 * following pc) ∷ return_places es base) r.above r.above') c' world')
+          (standing_at_depths (machine_at code q (return_places es base) r.above (Some (2 * following pc) ∷ r.above')) c' world')) (back_to pc)
           (runs_one laws p.data_start (length c') (suc (length (return_places es base))) high return_high middle
-          (standing_at_depths code (2 * following pc / 2 % 0x2000) c' (return_places es base) r.above (Some (2 * following pc) ∷ r.above') world')
+          (standing_at_depths (machine_at code (2 * following pc / 2 % 0x2000) (return_places es base) r.above (Some (2 * following pc) ∷ r.above')) c' world')
           (omega arith) (omega arith) leads) in
           let inside' : Runs p.data_start high return_high (1 + r.count) (There es c) middle =
-          subst (λ ps. Runs p.data_start high return_high (1 + r.count) (There es c) (standing_at_depths code r.to c' ps r.above r.above' world')) same_call
+          subst (λ ps. Runs p.data_start high return_high (1 + r.count) (There es c) (standing_at_depths (machine_at code r.to ps r.above r.above') c' world')) same_call
           (through at price most peak back w es c dear room under_call (rest return_above) called within c' world' r) in
           runs_then laws p.data_start high return_high (1 + r.count) 1 (There es c) middle there inside' returned
 
       pub ends_called : (end : End) (world' : World) →
-          Stopped p.data_start code (standing_at_depths code at c (places_below under_call) data_above (rest return_above) world) price (length c + peak)
+          Stopped p.data_start code (standing_at_depths (machine_at code at (places_below under_call) data_above (rest return_above)) c world) price (length c + peak)
           (length (places_below under_call) + back - 1) end world' → Halts laws p code place size (There es c) most high return_high end world'
       ends_called end world' r = ends at price most peak back w es c dear room under_call (rest return_above) called within end world' r
 
       comes_back : ends_body w ≡ false → Stands code place p out (following pc) w → Loops code place p out w → AreEntries es → (o : Reply (List ℕ)) →
-          Answers p.data_start code (standing_at_depths code at c (places_below under_call) data_above (rest return_above) world) price (length c + peak)
+          Answers p.data_start code (standing_at_depths (machine_at code at (places_below under_call) data_above (rest return_above)) c world) price (length c + peak)
           (length (places_below under_call) + back - 1) under_call o →
           Follows laws p code place size (There es c) most now high return_high (on_cells o (here w es c))
       comes_back e s l fe o answers =
@@ -210,7 +210,7 @@ module _ (laws : Laws) (p : SourceProgram) (code : List ℕ) (place : ℕ → �
     abbrev pub Answering : ℕ → ℕ → ℕ → ℕ → List ℕ → Reply (List ℕ) → Type 0
     Answering at price peak back c o =
         (under : List Entry) (above' : List (Option ℕ)) → AreEntries under →
-        Answers p.data_start code (standing_at_depths code at c (places_below under) data_above above' world) price (length c + peak)
+        Answers p.data_start code (standing_at_depths (machine_at code at (places_below under) data_above above') c world) price (length c + peak)
         (length (places_below under) + back - 1) under o
 
     pub answered : (tail : Bool) (at price most peak back : ℕ) (w : List Work) (es : List Entry) (c : List ℕ) (o : Reply (List ℕ)) → ends_body w ≡ tail →
@@ -221,16 +221,16 @@ module _ (laws : Laws) (p : SourceProgram) (code : List ℕ) (place : ℕ → �
     answered true at price most peak back w es c o e holds l few fe some dear room returns_room does =
         let places = same_whole es in
         let height = ap length places in
-        let jumped : Runs p.data_start high return_high 1 (There es c) (standing_at_depths code at c (places_below (whole es)) data_above return_above world) =
-        subst (λ ps. Runs p.data_start high return_high 1 (There es c) (standing_at_depths code at c ps data_above return_above world)) (sym places)
+        let jumped : Runs p.data_start high return_high 1 (There es c) (standing_at_depths (machine_at code at (places_below (whole es)) data_above return_above) c world) =
+        subst (λ ps. Runs p.data_start high return_high 1 (There es c) (standing_at_depths (machine_at code at ps data_above return_above) c world)) (sym places)
         (runs_one laws p.data_start (length c) (length (return_places es base)) high return_high (There es c)
-        (standing_at_depths code at c (return_places es base) data_above return_above world) (omega arith) (omega arith)
-        (laws.jumps p.data_start at pc code c (return_places es base) data_above return_above world holds)) in
+        (standing_at_depths (machine_at code at (return_places es base) data_above return_above) c world) (omega arith) (omega arith)
+        (laws.jumps p.data_start at (machine_at code pc (return_places es base) data_above return_above) c world holds)) in
         replied at price most peak back w es c dear room (whole es) return_above jumped (omega (arith, height)) o
         (λ c' world' r.
         let cheap = r.cheap in
         comes laws p code place size (There es c) (1 + r.count) r.to most now high return_high out (record { work = w; entries = es; callers = fs; cells = c'; world = world' }) base r.above r.above' (omega arith) (omega (arith, cheap)) due
-        (subst (λ ps. Runs p.data_start high return_high (1 + r.count) (There es c) (standing_at_depths code r.to c' ps r.above r.above' world')) places
+        (subst (λ ps. Runs p.data_start high return_high (1 + r.count) (There es c) (standing_at_depths (machine_at code r.to ps r.above r.above') c' world')) places
         (through at price most peak back w es c dear room (whole es) return_above jumped (omega (arith, height)) c' world' r))
         (record { stands = ends_at_return code place p out r.to w e few r.returns; loops = l; frames = frames; cells = r.cells; entries = fe; world = r.world_is; starts = r.starts }))
         (does (whole es) return_above (whole_are es fe))

@@ -17,7 +17,7 @@ use Rattle.forth_program.specs.Step.{IsTurn, before, loop_begins, turned, turn, 
 use Rattle.word_laws.specs.Rings.{OpenConfiguration}
 use Rattle.forth_program.specs.Cells.{AreCells, AreEntries, IsWorld}
 use Rattle.word_laws.specs.Control.{HoldsInstruction}
-use Rattle.word_laws.specs.Standing.{data_places, return_places, standing_as, StandIn}
+use Rattle.word_laws.specs.Standing.{data_places, return_places, standing_as, StandIn, machine_at}
 use Rattle.code_layout.specs.Layout.{do_cells, out_cells, loop_cells, plus_loop_cells}
 use Rattle.forth_program.specs.SourceTokens.{tokens_of}
 use Rattle.code_layout.proofs.Work.{ahead, unfinished, Placed, Stands, Loops, loops_before, stands_to, Frames}
@@ -41,7 +41,7 @@ module _ (laws : Laws) (p : SourceProgram) (code : List ℕ) (place : ℕ → �
   with_cells w es c = record { work = w; entries = es; callers = fs; cells = c; world = world }
 
   abbrev pub at : ℕ → List Entry → List ℕ → List (Option ℕ) → List (Option ℕ) → OpenConfiguration
-  at pc es c data_above return_above = standing_as (with_cells [] es c) code pc base data_above return_above
+  at pc es c data_above return_above = standing_as (with_cells [] es c) (machine_at code pc base data_above return_above)
 
   -- both cells of a loop are dropped: R> DROP R> DROP
   drops : (out_at next x l : ℕ) (es : List Entry) (c : List ℕ) (data_above return_above : List (Option ℕ)) → StandIn code out_at out_cells next →
@@ -85,7 +85,7 @@ module _ (laws : Laws) (p : SourceProgram) (code : List ℕ) (place : ℕ → �
       Runs p.data_start high return_high 1 (at test es (v ∷ c) data_above return_above) (at target es c (top (data_places c) ∷ data_above) return_above)
   branches target test zero es c data_above return_above e holds room back =
       runs_one laws p.data_start (suc (length c)) (length (return_places es base)) high return_high (at test es (0 ∷ c) data_above return_above) _ (omega arith)
-      back (laws.branches p.data_start target test code c (return_places es base) data_above return_above world holds)
+      back (laws.branches p.data_start target (machine_at code test (return_places es base) data_above return_above) c world holds)
   branches target test (suc n) es c data_above return_above e holds room back = absurd (omega arith)
 
   pub passes : (target test v : ℕ) (es : List Entry) (c : List ℕ) (data_above return_above : List (Option ℕ)) → v ≢ 0 → HoldsInstruction code test (Branch target) → length c + 1 ≤ high → length (return_places es base) ≤ return_high →
@@ -93,13 +93,13 @@ module _ (laws : Laws) (p : SourceProgram) (code : List ℕ) (place : ℕ → �
   passes target test zero es c data_above return_above e holds room back = absurd (e refl)
   passes target test (suc n) es c data_above return_above e holds room back =
       runs_one laws p.data_start (suc (length c)) (length (return_places es base)) high return_high (at test es (suc n ∷ c) data_above return_above) _
-      (omega arith) back (laws.passes p.data_start target test n code c (return_places es base) data_above return_above world holds)
+      (omega arith) back (laws.passes p.data_start target n (machine_at code test (return_places es base) data_above return_above) c world holds)
 
   pub jumps : (target pc : ℕ) (es : List Entry) (c : List ℕ) (data_above return_above : List (Option ℕ)) → HoldsInstruction code pc (Jump target) → length c ≤ high → length (return_places es base) ≤ return_high →
       Runs p.data_start high return_high 1 (at pc es c data_above return_above) (at target es c data_above return_above)
   jumps target pc es c data_above return_above holds room back =
       runs_one laws p.data_start (length c) (length (return_places es base)) high return_high (at pc es c data_above return_above) _ room back
-      (laws.jumps p.data_start target pc code c (return_places es base) data_above return_above world holds)
+      (laws.jumps p.data_start target (machine_at code pc (return_places es base) data_above return_above) c world holds)
 
   -- what stands where the innermost loop is dropped
   pub record LoopEnd (out_at : ℕ) (w : List Work) : Type 0 where

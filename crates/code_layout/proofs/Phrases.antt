@@ -13,7 +13,7 @@ use Rattle.j1_simulator.specs.Run.{run}
 use Rattle.word_laws.specs.Rings.{BeforeEach}
 use Rattle.word_laws.specs.Bounds.{StaysWithin}
 use Rattle.forth_program.specs.Cells.{AreCells, AreEntries, IsWorld}
-use Rattle.word_laws.specs.Standing.{return_places, standing_as, HasCome, StandIn}
+use Rattle.word_laws.specs.Standing.{return_places, standing_as, HasCome, StandIn, machine_at}
 use Rattle.word_laws.specs.Words.{stands_plain, return_need, CellsApply, IsReady}
 use Rattle.code_layout.proofs.Machine.{Laws, Runs, both, stand_split, wider, runs_then}
 
@@ -82,36 +82,41 @@ module _ (p : SourceProgram) (high return_high : ℕ) (base : List (Option ℕ))
     -- before each instruction of a word both stacks are within its peak and its back
     pub word_bounded : (word : Word) (s : State) (pc next : ℕ) (data_above return_above : List (Option ℕ)) → IsReady word code pc next s → s.world.data_start ≡ p.data_start →
         length s.cells + (entry_of word).peak ≤ high → length (return_places s.entries base) + (entry_of word).back ≤ return_high →
-        BeforeEach (StaysWithin 0 high 0 return_high) p.data_start (length (cells_of word)) (standing_as s code pc base data_above return_above)
+        BeforeEach (StaysWithin 0 high 0 return_high) p.data_start (length (cells_of word)) (standing_as s (machine_at code pc base data_above return_above))
     word_bounded word s pc next data_above return_above ready starts peak back =
         let low = length s.cells - (entry_of word).need in
         let most = length s.cells + (entry_of word).peak in
         let return_low = length (return_places s.entries base) - return_need word in
         let return_most = length (return_places s.entries base) + (entry_of word).back in
-        wider laws p.data_start low most return_low return_most high return_high (length (cells_of word)) (standing_as s code pc base data_above return_above) peak back
+        wider laws p.data_start low most return_low return_most high return_high (length (cells_of word)) (standing_as s (machine_at code pc base data_above return_above)) peak back
         (subst
         (λ d.
         BeforeEach
         (StaysWithin (length s.cells - (entry_of word).need) (length s.cells + (entry_of word).peak)
         (length (return_places s.entries base) - return_need word) (length (return_places s.entries base) + (entry_of word).back)) d
-        (length (cells_of word)) (standing_as s code pc base data_above return_above))
-        starts (laws.word_bounds word code pc next s base data_above return_above ready))
+        (length (cells_of word)) (standing_as s (machine_at code pc base data_above return_above)))
+        starts (laws.word_bounds word (machine_at code pc base data_above return_above) next s ready))
 
     -- a word comes to what it does
     pub word_comes : (word : Word) (s : State) (pc next : ℕ) (data_above return_above : List (Option ℕ)) (o : Outcome) → IsReady word code pc next s → s.world.data_start ≡ p.data_start → word_step p word s.cells s.entries s ≡ o →
-        HasCome code next base (run open_storage p.data_start (length (cells_of word)) (standing_as s code pc base data_above return_above)) o
+        HasCome code next base (run open_storage p.data_start (length (cells_of word)) (standing_as s (machine_at code pc base data_above return_above))) o
     word_comes word s pc next data_above return_above o ready starts e =
-        subst (λ d. HasCome code next base (run open_storage d (length (cells_of word)) (standing_as s code pc base data_above return_above)) o) starts
-        (subst (HasCome code next base (run open_storage s.world.data_start (length (cells_of word)) (standing_as s code pc base data_above return_above))) e (laws.words p word code pc next s base data_above return_above ready))
+        subst (λ d. HasCome code next base (run open_storage d (length (cells_of word)) (standing_as s (machine_at code pc base data_above return_above))) o) starts
+        (subst
+        (HasCome code next base
+        (run open_storage s.world.data_start (length (cells_of word)) (standing_as s (machine_at code pc base data_above return_above)))) e
+        (laws.words p word (machine_at code pc base data_above return_above) next s ready))
 
     pub phrase_runs : (words : List Word) (s t : State) (pc next : ℕ) (data_above return_above : List (Option ℕ)) → list_all is_free words ≡ true → outcome words s ≡ Goes t → CellsSuffice words s →
         StandIn code pc (phrase words) next → AreCells s.cells → AreEntries s.entries → IsWorld s.world → s.world.data_start ≡ p.data_start →
-        (above : List (Option ℕ)) × (above' : List (Option ℕ)) × Runs p.data_start high return_high (length (phrase words)) (standing_as s code pc base data_above return_above) (standing_as t code next base above above')
+        (above : List (Option ℕ)) × (above' : List (Option ℕ))
+        × Runs p.data_start high return_high (length (phrase words)) (standing_as s (machine_at code pc base data_above return_above))
+        (standing_as t (machine_at code next base above above'))
     phrase_runs [] s t pc next data_above return_above free leads enough stands cells entries world starts =
         let same : s ≡ t = cc in (
           data_above,
           return_above,
-          record { makes = ap (λ x. standing_as x code pc base data_above return_above) same ∙ ap (λ q. standing_as t code q base data_above return_above) stands; bounds = tt },
+          record { makes = ap (λ x. standing_as x (machine_at code pc base data_above return_above)) same ∙ ap (λ q. standing_as t (machine_at code q base data_above return_above)) stands; bounds = tt },
         )
     phrase_runs (word ∷ words) s t pc next data_above return_above free leads enough stands cells entries world starts =
         first_runs (word_step p word s.cells s.entries s) refl leads enough.2
@@ -122,14 +127,16 @@ module _ (p : SourceProgram) (high return_high : ℕ) (base : List (Option ℕ))
         first_runs : (o : Outcome) → word_step p word s.cells s.entries s ≡ o → and_then o (outcome words) ≡ Goes t → on_state o (CellsSuffice words) →
             ((m : State) (q : ℕ) (data_above return_above : List (Option ℕ)) → outcome words m ≡ Goes t → CellsSuffice words m →
             StandIn code q (phrase words) next → AreCells m.cells → AreEntries m.entries → IsWorld m.world → m.world.data_start ≡ p.data_start →
-            (above : List (Option ℕ)) × (above' : List (Option ℕ)) × Runs p.data_start high return_high (length (phrase words)) (standing_as m code q base data_above return_above) (standing_as t code next base above above')) →
             (above : List (Option ℕ)) × (above' : List (Option ℕ))
-            × Runs p.data_start high return_high (length (cells_of word ++ phrase words)) (standing_as s code pc base data_above return_above)
-            (standing_as t code next base above above')
+            × Runs p.data_start high return_high (length (phrase words)) (standing_as m (machine_at code q base data_above return_above))
+            (standing_as t (machine_at code next base above above'))) →
+            (above : List (Option ℕ)) × (above' : List (Option ℕ))
+            × Runs p.data_start high return_high (length (cells_of word ++ phrase words)) (standing_as s (machine_at code pc base data_above return_above))
+            (standing_as t (machine_at code next base above above'))
         first_runs (Ends end world) e leads more later = absurd (cc)
         first_runs (Goes m) e leads more later =
             let split = stand_split code (cells_of word) (phrase words) pc next stands in
-            let v = standing_as s code pc base data_above return_above in
+            let v = standing_as s (machine_at code pc base data_above return_above) in
             let applies = free_applies word s.cells (both (is_free word) (list_all is_free words) free).0 in
             let ready =
             word_ready word s pc split.0 applies.0 applies.1 (ap lacks e)
@@ -141,8 +148,8 @@ module _ (p : SourceProgram) (high return_high : ℕ) (base : List (Option ℕ))
             let rest = later m split.0 come.0 come.1 leads more split.2 kept.cells kept.entries kept.world (kept.data_start ∙ starts) in (
               rest.0,
               rest.1,
-              subst (λ n. Runs p.data_start high return_high n v (standing_as t code next base rest.0 rest.1)) (sym (length-append (cells_of word) (phrase words)))
+              subst (λ n. Runs p.data_start high return_high n v (standing_as t (machine_at code next base rest.0 rest.1))) (sym (length-append (cells_of word) (phrase words)))
                   (runs_then laws p.data_start high return_high (length (cells_of word)) (length (phrase words)) v
-                  (standing_as m code split.0 base come.0 come.1) (standing_as t code next base rest.0 rest.1) (record { makes = come.2; bounds = bounds })
+                  (standing_as m (machine_at code split.0 base come.0 come.1)) (standing_as t (machine_at code next base rest.0 rest.1)) (record { makes = come.2; bounds = bounds })
                   rest.2),
             )

@@ -14,7 +14,7 @@ use Rattle.word_laws.specs.Rings.{OpenConfiguration, BeforeEach}
 use Rattle.word_laws.specs.Bounds.{StaysWithin}
 use Rattle.forth_program.specs.Cells.{AreCells, AreEntries, IsWorld}
 use Rattle.word_laws.specs.Control.{HoldsInstruction}
-use Rattle.word_laws.specs.Standing.{return_places, standing_at_depths, machine_end, EndedIn}
+use Rattle.word_laws.specs.Standing.{return_places, standing_at_depths, machine_end, EndedIn, machine_at}
 use Rattle.code_layout.specs.Numbering.{library_number}
 use Rattle.code_layout.proofs.Machine.{Runs}
 
@@ -39,7 +39,7 @@ module _ (data_start : ℕ) (code : List ℕ) where
     pub to : ℕ
     pub above : List (Option ℕ)
     pub above' : List (Option ℕ)
-    pub runs : Runs data_start high return_high count v (standing_at_depths code to c (places_below es) above above' world)
+    pub runs : Runs data_start high return_high count v (standing_at_depths (machine_at code to (places_below es) above above') c world)
     pub returns : HoldsInstruction code to (decoded 0x700C)
     -- with its call and its return
     pub cheap : count + 2 ≤ price
@@ -70,9 +70,9 @@ module _ (data_start : ℕ) (code : List ℕ) where
     pub number : ℕ
     pub is_library : library_number word ≡ Some number
     pub does : (es : List Entry) (c : List ℕ) (data_above return_above : List (Option ℕ)) (w : World) → AreEntries es → AreCells c → IsWorld w → w.data_start ≡ data_start →
-        Answers (standing_at_depths code at c (places_below es) data_above return_above w) (routine_price word c w) (length c + (entry_of word).peak) (length (places_below es) + (entry_of word).back - 1) es (meaning word c w)
+        Answers (standing_at_depths (machine_at code at (places_below es) data_above return_above) c w) (routine_price word c w) (length c + (entry_of word).peak) (length (places_below es) + (entry_of word).back - 1) es (meaning word c w)
 
   -- the code at a place does what ABORT" does with a flag, an address and a length
   pub record IsAborter (at : ℕ) : Type 0 where
     pub does : (es : List Entry) (u a flag : ℕ) (c : List ℕ) (data_above return_above : List (Option ℕ)) (w : World) → AreEntries es → AreCells (u ∷ a ∷ flag ∷ c) → IsWorld w → w.data_start ≡ data_start →
-        Answers (standing_at_depths code at (u ∷ a ∷ flag ∷ c) (places_below es) data_above return_above w) (abort_price u flag) (length (u ∷ a ∷ flag ∷ c) + 9) (length (places_below es) + 8 - 1) es (abort_reply u a flag c w)
+        Answers (standing_at_depths (machine_at code at (places_below es) data_above return_above) (u ∷ a ∷ flag ∷ c) w) (abort_price u flag) (length (u ∷ a ∷ flag ∷ c) + 9) (length (places_below es) + 8 - 1) es (abort_reply u a flag c w)

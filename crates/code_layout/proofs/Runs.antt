@@ -11,7 +11,7 @@ use Rattle.forth_program.specs.Run.{steps, end_of, lacks}
 use Rattle.forth_program.specs.Price.{step_price, spent}
 use Rattle.word_laws.specs.Rings.{OpenConfiguration, BeforeEach}
 use Rattle.word_laws.specs.Bounds.{StaysWithin}
-use Rattle.word_laws.specs.Standing.{return_places, standing_as}
+use Rattle.word_laws.specs.Standing.{return_places, standing_as, machine_at}
 use Rattle.forth_program.specs.Heights.{address_height, return_height, peak_of, back_of, StepsFit, DepthsFit}
 use Rattle.code_layout.specs.Agreement.{Shows}
 use Rattle.code_layout.proofs.Work.{places_height, callers_fit, ahead, unfinished, Meets}
@@ -53,7 +53,7 @@ module _ (laws : Laws) (p : SourceProgram) (code : List ℕ) (place : ℕ → �
     pub base : List (Option ℕ)
     pub data_above : List (Option ℕ)
     pub return_above : List (Option ℕ)
-    pub is : v ≡ standing_as s code to base data_above return_above
+    pub is : v ≡ standing_as s (machine_at code to base data_above return_above)
     pub meets : Meets code place p out to s base
 
   -- where the run has not ended, and is not at the item of a token
@@ -108,12 +108,12 @@ module _ (laws : Laws) (p : SourceProgram) (code : List ℕ) (place : ℕ → �
   -- m steps and those after them
   goes_on : (m k all_steps total cost now now' : ℕ) (s after : State) (v : OpenConfiguration) (high return_high : ℕ) → all_steps ≡ m + k → steps p all_steps s ≡ steps p k after → spent p total all_steps s ≡ spent p (total + cost) k after →
       (c : Comes laws p code place size v cost now' high return_high after) → m + ahead after.work + unfinished after.callers ≤ now + c.count * (p.source_tokens + 1) →
-      Reaches k (total + cost) (ahead after.work + unfinished after.callers) after (standing_as after code c.to c.base c.data_above c.return_above) →
+      Reaches k (total + cost) (ahead after.work + unfinished after.callers) after (standing_as after (machine_at code c.to c.base c.data_above c.return_above)) →
       ((high' return_high' : ℕ) → StepsFit p high' return_high' all_steps s → (high ≤ high') × (return_high ≤ return_high') × StepsFit p high' return_high' k after) → Reaches all_steps total now s v
   goes_on m k all_steps total cost now now' s after v high return_high are onward price c near r fits =
       let paid = c.cheap in
       let paid' = r.cheap in
-      let middle = standing_as after code c.to c.base c.data_above c.return_above in
+      let middle = standing_as after (machine_at code c.to c.base c.data_above c.return_above) in
       let joined : run open_storage p.data_start (c.count + r.count) v ≡ run open_storage p.data_start r.count middle = laws.runs_join c.count r.count p.data_start v ∙ ap (run open_storage p.data_start r.count) c.runs.makes in
       record {
         count = c.count + r.count;
@@ -132,16 +132,16 @@ module _ (laws : Laws) (p : SourceProgram) (code : List ℕ) (place : ℕ → �
   -- what is proved of k steps
   abbrev RunsOf : ℕ → Type 0
   RunsOf k = (total pc : ℕ) (out : Option ℕ) (s : State) (base data_above return_above : List (Option ℕ)) → Meets code place p out pc s base → lacks (steps p k s) ≡ false → DepthsFit p k s →
-      Reaches k total (ahead s.work + unfinished s.callers) s (standing_as s code pc base data_above return_above)
+      Reaches k total (ahead s.work + unfinished s.callers) s (standing_as s (machine_at code pc base data_above return_above))
 
   no_runs : RunsOf zero
   no_runs total pc out s base data_above return_above m sound depths =
-      none_yet total (ahead s.work + unfinished s.callers) s (standing_as s code pc base data_above return_above) (record { stop_is = refl; memory = refl; input = refl; printed = refl })
+      none_yet total (ahead s.work + unfinished s.callers) s (standing_as s (machine_at code pc base data_above return_above)) (record { stop_is = refl; memory = refl; input = refl; printed = refl })
       (record { out = out; to = pc; base = base; data_above = data_above; return_above = return_above; is = refl; meets = m })
 
   module _ (total pc : ℕ) (out : Option ℕ) (s : State) (base data_above return_above : List (Option ℕ)) (m : Meets code place p out pc s base) where
     abbrev from : OpenConfiguration
-    from = standing_as s code pc base data_above return_above
+    from = standing_as s (machine_at code pc base data_above return_above)
 
     abbrev high : ℕ
     high = length s.cells + peak_of s.callers (first_work s.work)
@@ -233,7 +233,7 @@ module _ (laws : Laws) (p : SourceProgram) (code : List ℕ) (place : ℕ → �
                 base = c.base;
                 data_above = c.data_above;
                 return_above = c.return_above;
-                runs = runs_then laws p.data_start top return_top x.count c.count from x.there (standing_as after code c.to c.base c.data_above c.return_above) runs_before c.runs;
+                runs = runs_then laws p.data_start top return_top x.count c.count from x.there (standing_as after (machine_at code c.to c.base c.data_above c.return_above)) runs_before c.runs;
                 meets = c.meets;
                 cheap = omega (arith, cheap, paid);
                 progress = omega (arith, far, due, twice, add-mul x.count c.count (p.source_tokens + 1));
@@ -294,10 +294,10 @@ module _ (laws : Laws) (p : SourceProgram) (code : List ℕ) (place : ℕ → �
       (step_follows laws p code place size all out pc s base data_above return_above m (depths 0 s (omega arith) (no_steps p s)))
     where
       executing : (k : ℕ) → ((j : ℕ) → suc j ≡ k → RunsOf j) → lacks (steps p (suc k) s) ≡ false → DepthsFit p (suc k) s →
-          Executes laws p code place size all (standing_as s code pc base data_above return_above) (step_price s) (ahead s.work + unfinished s.callers)
+          Executes laws p code place size all (standing_as s (machine_at code pc base data_above return_above)) (step_price s) (ahead s.work + unfinished s.callers)
           (length s.cells + peak_of s.callers (first_work s.work)) (length (return_places s.entries base) + back_of (first_work s.work)) (first_work s.work)
           s.cells s.entries base (step p s) →
-          Reaches (suc k) total (ahead s.work + unfinished s.callers) s (standing_as s code pc base data_above return_above)
+          Reaches (suc k) total (ahead s.work + unfinished s.callers) s (standing_as s (machine_at code pc base data_above return_above))
       executing zero earlier sound depths x = executed total pc out s base data_above return_above m x sound
       executing (suc k) earlier sound depths x = twice total pc out s base data_above return_above m x k sound depths (earlier k refl)
 
@@ -312,5 +312,5 @@ module _ (laws : Laws) (p : SourceProgram) (code : List ℕ) (place : ℕ → �
       same_before j k e = omega (arith, e)
 
   pub reaches : (k total pc : ℕ) (out : Option ℕ) (s : State) (base data_above return_above : List (Option ℕ)) → Meets code place p out pc s base → lacks (steps p k s) ≡ false → DepthsFit p k s →
-      Reaches k total (ahead s.work + unfinished s.callers) s (standing_as s code pc base data_above return_above)
+      Reaches k total (ahead s.work + unfinished s.callers) s (standing_as s (machine_at code pc base data_above return_above))
   reaches k = (both_runs k).0

@@ -10,7 +10,7 @@ use Rattle.forth_program.specs.Run.{source_run, steps, first_state, world_of, en
 use Rattle.forth_program.specs.Price.{price}
 use Rattle.word_laws.specs.Rings.{OpenConfiguration, BeforeEach}
 use Rattle.word_laws.specs.Bounds.{StaysWithin}
-use Rattle.word_laws.specs.Standing.{standing_as, machine_end}
+use Rattle.word_laws.specs.Standing.{standing_as, machine_end, machine_at}
 use Rattle.forth_program.specs.Tree.{Nodes}
 use Rattle.code_layout.specs.Layout.{laid_out}
 use Rattle.code_layout.specs.Library.{IsLibrary, LibraryMeans}
@@ -66,7 +66,7 @@ module _ (laws : Laws) (library : List Nodes) (form : IsLibrary library) (means 
 
   -- the machine at MAIN
   abbrev main : OpenConfiguration
-  main = standing_as (first_state p input) (code_of library p) (places p.main_body) (Some 2 ∷ []) [] []
+  main = standing_as (first_state p input) (machine_at (code_of library p) (places p.main_body) (Some 2 ∷ []) [] [])
 
   main_meets : Meets (code_of library p) places p None (places p.main_body) (first_state p input) (Some 2 ∷ [])
   main_meets = record {
@@ -81,8 +81,8 @@ module _ (laws : Laws) (library : List Nodes) (form : IsLibrary library) (means 
 
   called : (high return_high : ℕ) → BeforeEach (StaysWithin 0 high 0 return_high) p.data_start 1 start × (run open_storage p.data_start 1 start ≡ main)
   called high return_high =
-      let v = standing_as (first_state p input) (code_of library p) 0 [] [] [] in
-      let leads = laws.calls p.data_start (places p.main_body) 0 (code_of library p) [] [] [] [] (first_state p input).world (main_called laws library p built) in
+      let v = standing_as (first_state p input) (machine_at (code_of library p) 0 [] [] []) in
+      let leads = laws.calls p.data_start (places p.main_body) (machine_at (code_of library p) 0 [] [] []) [] (first_state p input).world (main_called laws library p built) in
       let one = runs_one laws p.data_start 0 0 high return_high v main (omega arith) (omega arith) leads in
       (subst (BeforeEach (StaysWithin 0 high 0 return_high) p.data_start 1) (sym (begins laws library p built input)) one.bounds, ap (run open_storage p.data_start 1) (begins laws library p built input) ∙ one.makes)
 

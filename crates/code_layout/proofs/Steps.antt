@@ -20,7 +20,7 @@ use Rattle.word_laws.specs.Bounds.{StaysWithin}
 use Rattle.forth_program.specs.Cells.{AreCells, AreEntries, IsWorld}
 use Rattle.word_laws.specs.Control.{HoldsInstruction, halt_cells}
 use Rattle.word_laws.specs.Numbers.{number_cells, NumberStands}
-use Rattle.word_laws.specs.Standing.{data_places, return_places, standing_as, machine_end, EndedIn, HasCome, StandIn}
+use Rattle.word_laws.specs.Standing.{data_places, return_places, standing_as, machine_end, EndedIn, HasCome, StandIn, machine_at}
 use Rattle.word_laws.specs.Words.{stands_plain, return_need, CellsApply}
 use Rattle.forth_program.specs.Run.{lacks}
 use Rattle.forth_program.specs.Heights.{DepthFits}
@@ -60,7 +60,7 @@ module _ (laws : Laws) (p : SourceProgram) (code : List ℕ) (place : ℕ → �
     pub base : List (Option ℕ)
     pub data_above : List (Option ℕ)
     pub return_above : List (Option ℕ)
-    pub runs : Runs p.data_start high return_high count v (standing_as after code to base data_above return_above)
+    pub runs : Runs p.data_start high return_high count v (standing_as after (machine_at code to base data_above return_above))
     pub meets : Meets code place p out to after base
     pub cheap : count ≤ price
     pub progress : 1 + ahead after.work + unfinished after.callers ≤ now + count * (p.source_tokens + 1)
@@ -99,7 +99,7 @@ module _ (laws : Laws) (p : SourceProgram) (code : List ℕ) (place : ℕ → �
 
   -- by at least one instruction
   pub comes : (v : OpenConfiguration) (count to price now high return_high : ℕ) (out : Option ℕ) (after : State) (base data_above return_above : List (Option ℕ)) → 1 ≤ count → count ≤ price → unfinished after.callers ≤ now →
-      Runs p.data_start high return_high count v (standing_as after code to base data_above return_above) → Meets code place p out to after base → Comes v price now high return_high after
+      Runs p.data_start high return_high count v (standing_as after (machine_at code to base data_above return_above)) → Meets code place p out to after base → Comes v price now high return_high after
   comes v count to price now high return_high out after base data_above return_above some cheap due runs meets = record {
     count = count;
     out = out;
@@ -115,7 +115,7 @@ module _ (laws : Laws) (p : SourceProgram) (code : List ℕ) (place : ℕ → �
 
   -- by none
   pub stays : (v : OpenConfiguration) (to price now high return_high : ℕ) (out : Option ℕ) (after : State) (base data_above return_above : List (Option ℕ)) → 1 + ahead after.work + unfinished after.callers ≤ now →
-      v ≡ standing_as after code to base data_above return_above → Meets code place p out to after base → Comes v price now high return_high after
+      v ≡ standing_as after (machine_at code to base data_above return_above) → Meets code place p out to after base → Comes v price now high return_high after
   stays v to price now high return_high out after base data_above return_above n same meets = record {
     count = 0;
     out = out;
@@ -142,7 +142,7 @@ module _ (laws : Laws) (p : SourceProgram) (code : List ℕ) (place : ℕ → �
         base = f.base;
         data_above = f.data_above;
         return_above = f.return_above;
-        runs = runs_then laws p.data_start high return_high n f.count v v' (standing_as after code f.to f.base f.data_above f.return_above) runs f.runs;
+        runs = runs_then laws p.data_start high return_high n f.count v v' (standing_as after (machine_at code f.to f.base f.data_above f.return_above)) runs f.runs;
         meets = f.meets;
         cheap = omega (arith, paid);
         progress = omega (arith, far, add-mul n f.count (p.source_tokens + 1));
@@ -165,17 +165,18 @@ module _ (laws : Laws) (p : SourceProgram) (code : List ℕ) (place : ℕ → �
     here w es c = record { work = w; entries = es; callers = fs; cells = c; world = world }
 
     abbrev pub There : List Entry → List ℕ → OpenConfiguration
-    There es c = standing_as (here [] es c) code pc base data_above return_above
+    There es c = standing_as (here [] es c) (machine_at code pc base data_above return_above)
 
     pub number_runs : (value next : ℕ) (es : List Entry) (c : List ℕ) → value < 65536 → StandIn code pc (number_cells value) next → length c + 1 ≤ high → length (return_places es base) ≤ return_high →
-        (above : List (Option ℕ)) × (above' : List (Option ℕ)) × Runs p.data_start high return_high (length (number_cells value)) (There es c) (standing_as (here [] es (value ∷ c)) code next base above above')
+        (above : List (Option ℕ)) × (above' : List (Option ℕ)) × Runs p.data_start high return_high (length (number_cells value)) (There es c) (standing_as (here [] es (value ∷ c)) (machine_at code next base above above'))
     number_runs value next es c small stands room back =
         let stands' : NumberStands value code pc next (here [] es c) = record { is_cell = small; code_size = size ∙ ap (λ d. d / 2) (sym starts); in_code = stands } in
         let come : HasCome code next base (run open_storage p.data_start (length (number_cells value)) (There es c)) (Goes (here [] es (value ∷ c))) =
-        subst (λ d. HasCome code next base (run open_storage d (length (number_cells value)) (There es c)) (Goes (here [] es (value ∷ c)))) starts (laws.numbers p [] value code pc next (here [] es c) base data_above return_above stands') in
+        subst (λ d. HasCome code next base (run open_storage d (length (number_cells value)) (There es c)) (Goes (here [] es (value ∷ c)))) starts
+        (laws.numbers p [] value (machine_at code pc base data_above return_above) next (here [] es c) stands') in
         let bounds = wider laws p.data_start (length c) (length c + 1) (length (return_places es base)) (length (return_places es base)) high return_high (length (number_cells value)) (There es c) room back
         (subst (λ d. BeforeEach (StaysWithin (length c) (length c + 1) (length (return_places es base)) (length (return_places es base))) d (length (number_cells value)) (There es c)) starts
-        (laws.number_bounds value code pc next (here [] es c) base data_above return_above stands')) in
+        (laws.number_bounds value (machine_at code pc base data_above return_above) next (here [] es c) stands')) in
         (come.0, come.1, record { makes = come.2; bounds = bounds })
 
     pub number_follows : (value next : ℕ) (w : List Work) (es : List Entry) (c : List ℕ) → value < 65536 → StandIn code pc (number_cells value) next → Stands code place p out next w → Loops code place p out w → AreEntries es → AreCells c →
@@ -208,7 +209,7 @@ module _ (laws : Laws) (p : SourceProgram) (code : List ℕ) (place : ℕ → �
               (λ d.
               StaysWithin (length c - (entry_of word).need) (length c + (entry_of word).peak) (length (return_places es base) - return_need word)
               (length (return_places es base) + (entry_of word).back) (run open_storage d (length (cells_of word)) (There es c))) starts
-              (laws.word_ends p word code pc next (here w es c) base data_above return_above end world' ready e));
+              (laws.word_ends p word (machine_at code pc base data_above return_above) next (here w es c) end world' ready e));
           cheap = omega (arith, paid);
         }
 
@@ -255,7 +256,7 @@ module _ (laws : Laws) (p : SourceProgram) (code : List ℕ) (place : ℕ → �
         length c ≤ high → length (return_places es base) ≤ return_high → Comes (There es c) 1 now high return_high (here w es c)
     jump_follows target out' w es c holds s l fe fc room back =
         comes (There es c) 1 target 1 now high return_high out' (here w es c) base data_above return_above (omega arith) (omega arith) due
-        (runs_one laws p.data_start (length c) (length (return_places es base)) high return_high (There es c) _ room back (laws.jumps p.data_start target pc code c (return_places es base) data_above return_above world holds))
+        (runs_one laws p.data_start (length c) (length (return_places es base)) high return_high (There es c) _ room back (laws.jumps p.data_start target (machine_at code pc (return_places es base) data_above return_above) c world holds))
         (record { stands = s; loops = l; frames = frames; cells = fc; entries = fe; world = fits; starts = starts })
 
     pub call_follows : AllStand → (tail : Bool) (d : ℕ) (w : List Work) (es : List Entry) (c : List ℕ) → ends_body w ≡ tail → d < length p.bodies →
@@ -265,7 +266,8 @@ module _ (laws : Laws) (p : SourceProgram) (code : List ℕ) (place : ℕ → �
     call_follows all true d w es c e lt holds l n few fe fc room back =
         let left : steps_left (ends_body w) w ≡ 1 + ahead w = ap (λ tail. steps_left tail w) e in
         comes (There es c) 1 (place d) 1 now high return_high None (called p d (here w es c)) (return_places es base) data_above return_above (omega arith) (omega arith) (omega (arith, left))
-        (runs_one laws p.data_start (length c) (length (return_places es base)) high return_high (There es c) _ room back (laws.jumps p.data_start (place d) pc code c (return_places es base) data_above return_above world holds))
+        (runs_one laws p.data_start (length c) (length (return_places es base)) high return_high (There es c) _ room back
+        (laws.jumps p.data_start (place d) (machine_at code pc (return_places es base) data_above return_above) c world holds))
         (record {
           stands = all.bodies d lt;
           loops = loops_before code place p (body_of p d) None [] refl;
@@ -278,7 +280,8 @@ module _ (laws : Laws) (p : SourceProgram) (code : List ℕ) (place : ℕ → �
     call_follows all false d w es c e lt holds l n few fe fc room back =
         let left : steps_left (ends_body w) w ≡ 0 = ap (λ tail. steps_left tail w) e in
         comes (There es c) 1 (place d) 1 now high return_high None (called p d (here w es c)) (Some (2 * following pc) ∷ return_places es base) data_above (rest return_above) (omega arith) (omega arith) (omega (arith, left))
-        (runs_one laws p.data_start (length c) (length (return_places es base)) high return_high (There es c) _ room back (laws.calls p.data_start (place d) pc code c (return_places es base) data_above return_above world holds.0))
+        (runs_one laws p.data_start (length c) (length (return_places es base)) high return_high (There es c) _ room back
+        (laws.calls p.data_start (place d) (machine_at code pc (return_places es base) data_above return_above) c world holds.0))
         (record {
           stands = all.bodies d lt;
           loops = loops_before code place p (body_of p d) None [] refl;
@@ -311,10 +314,11 @@ module _ (laws : Laws) (p : SourceProgram) (code : List ℕ) (place : ℕ → �
     flag_follows target at_zero other w es [] holds s l s' l' fe fc room back = tt
     flag_follows target at_zero other w es (zero ∷ c) holds s l s' l' fe fc room back =
         comes (There es (0 ∷ c)) 1 target 1 now high return_high out (here at_zero es c) base (top (data_places c) ∷ data_above) return_above (omega arith) (omega arith) due
-        (runs_one laws p.data_start (suc (length c)) (length (return_places es base)) high return_high (There es (0 ∷ c)) _ room back (laws.branches p.data_start target pc code c (return_places es base) data_above return_above world holds))
+        (runs_one laws p.data_start (suc (length c)) (length (return_places es base)) high return_high (There es (0 ∷ c)) _ room back
+        (laws.branches p.data_start target (machine_at code pc (return_places es base) data_above return_above) c world holds))
         (record { stands = s; loops = l; frames = frames; cells = fc.1; entries = fe; world = fits; starts = starts })
     flag_follows target at_zero other w es (suc n ∷ c) holds s l s' l' fe fc room back =
         comes (There es (suc n ∷ c)) 1 (following pc) 1 now high return_high out (here other es c) base (top (data_places c) ∷ data_above) return_above (omega arith) (omega arith) due
         (runs_one laws p.data_start (suc (length c)) (length (return_places es base)) high return_high (There es (suc n ∷ c)) _ room back
-        (laws.passes p.data_start target pc n code c (return_places es base) data_above return_above world holds))
+        (laws.passes p.data_start target n (machine_at code pc (return_places es base) data_above return_above) c world holds))
         (record { stands = s'; loops = l'; frames = frames; cells = fc.1; entries = fe; world = fits; starts = starts })

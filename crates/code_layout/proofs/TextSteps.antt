@@ -14,7 +14,7 @@ use Rattle.forth_program.specs.Price.{text_price}
 use Rattle.word_laws.specs.Rings.{OpenConfiguration}
 use Rattle.forth_program.specs.Cells.{AreCells, AreEntries, IsWorld}
 use Rattle.word_laws.specs.Numbers.{number_cells}
-use Rattle.word_laws.specs.Standing.{return_places, standing_as, StandIn}
+use Rattle.word_laws.specs.Standing.{return_places, standing_as, StandIn, machine_at}
 use Rattle.forth_program.specs.Heights.{text_peak, text_back}
 use Rattle.code_layout.proofs.Machine.{Laws, Runs, runs_then}
 use Rattle.code_layout.proofs.Routines.{abort_reply, abort_price}
@@ -36,7 +36,7 @@ module _ (laws : Laws) (p : SourceProgram) (code : List ℕ) (place : ℕ → �
   here w es c = record { work = w; entries = es; callers = fs; cells = c; world = world }
 
   abbrev at_place : ℕ → List Entry → List ℕ → List (Option ℕ) → List (Option ℕ) → OpenConfiguration
-  at_place q es c above above' = standing_as (here [] es c) code q base above above'
+  at_place q es c above above' = standing_as (here [] es c) (machine_at code q base above above')
 
   -- two numbers
   two_run : (a n middle next : ℕ) (es : List Entry) (c : List ℕ) → a < 32768 → n < 32768 → StandIn code pc (number_cells a) middle →

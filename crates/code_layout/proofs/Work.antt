@@ -14,7 +14,7 @@ use Rattle.forth_program.specs.Step.{IsQDo, IsTurn, IsOf, IsEndOf, IsEndCase, Is
 use Rattle.forth_program.specs.Cells.{AreCells, AreEntries, IsWorld}
 use Rattle.word_laws.specs.Control.{HoldsInstruction}
 use Rattle.word_laws.specs.Numbers.{number_cells}
-use Rattle.word_laws.specs.Standing.{return_places, standing_at_depths, StandIn}
+use Rattle.word_laws.specs.Standing.{return_places, standing_at_depths, StandIn, machine_at}
 use Rattle.word_laws.specs.Words.{stands_plain}
 use Rattle.word_table.specs.declared.word.Word.{Word}
 use Rattle.word_table.specs.declared.word.Word.TheVariants.{Execute, TypeOut}
@@ -107,7 +107,7 @@ module _ (code : List ℕ) (place : ℕ → ℕ) (p : SourceProgram) where
     pub at : ℕ
     pub above : List (Option ℕ)
     pub above' : List (Option ℕ)
-    pub runs : Runs p.data_start (length c + 3) (length (places_below es) + 1) count v (standing_at_depths code at c (places_below es) above above' w)
+    pub runs : Runs p.data_start (length c + 3) (length (places_below es) + 1) count v (standing_at_depths (machine_at code at (places_below es) above above') c w)
     pub stands : TokenStands node at
     pub some : 1 ≤ count
     pub cheap : count ≤ 20
@@ -115,9 +115,9 @@ module _ (code : List ℕ) (place : ℕ → ℕ) (p : SourceProgram) where
   -- the code at a place does what EXECUTE does
   pub record IsExecutor (at : ℕ) : Type 0 where
     pub finds : (t : ℕ) (node : Node) (c : List ℕ) (es : List Entry) (data_above return_above : List (Option ℕ)) (w : World) → token_of p t ≡ Some node → AreEntries es → AreCells (t ∷ c) → IsWorld w → w.data_start ≡ p.data_start →
-        Found (standing_at_depths code at (t ∷ c) (places_below es) data_above return_above w) node c es w
+        Found (standing_at_depths (machine_at code at (places_below es) data_above return_above) (t ∷ c) w) node c es w
     pub fails : (t : ℕ) (c : List ℕ) (es : List Entry) (data_above return_above : List (Option ℕ)) (w : World) → token_of p t ≡ None → AreEntries es → AreCells (t ∷ c) → IsWorld w → w.data_start ≡ p.data_start →
-        Stopped p.data_start code (standing_at_depths code at (t ∷ c) (places_below es) data_above return_above w) 20 (length c + 3) (length (places_below es) + 1) (Halted 13) w
+        Stopped p.data_start code (standing_at_depths (machine_at code at (places_below es) data_above return_above) (t ∷ c) w) 20 (length c + 3) (length (places_below es) + 1) (Halted 13) w
 
   abbrev pub ExecuteStands : Bool → ℕ → Word → (ℕ → Type 0) → Type 0
   ExecuteStands tail pc word K = (word ≡ Execute) × (at : ℕ) × CallStands tail pc at (K (following pc)) × IsExecutor at

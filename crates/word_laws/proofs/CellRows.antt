@@ -10,7 +10,7 @@ use Rattle.j1_simulator.specs.OpenMachine.{top_cell, rest, open_storage}
 use Rattle.j1_simulator.specs.Run.{run}
 use Rattle.word_laws.specs.Rings.{OpenConfiguration, BeforeEach, KnownWithin}
 use Rattle.word_laws.specs.Bounds.{StaysWithin}
-use Rattle.word_laws.specs.Standing.{data_places, return_places, standing, standing_at_depths, machine_end, EndedIn, HasCome, StandIn}
+use Rattle.word_laws.specs.Standing.{data_places, return_places, standing, standing_at_depths, machine_end, EndedIn, HasCome, StandIn, machine_at}
 use Rattle.word_laws.proofs.Rows.{feed, past, data_past, return_past, HasAll, RowEnds, RowMeans}
 use Rattle.word_laws.proofs.Walk.{stays}
 use Rattle.word_laws.proofs.Heights.{height_le}
@@ -69,7 +69,7 @@ past_is code (i ∷ is) pc q h = past_is code is (following pc) q h.1
 
 -- a row between standing states
 module _ (data_start : ℕ) (code : List ℕ) (size : length code ≡ data_start / 2) (to_end : Bool) where
-  counts_at : (pc : ℕ) (c : List ℕ) (r da ra : List (Option ℕ)) (o : World) (under k below j : ℕ) → length c ≡ under + k → length r ≡ below + j → Counts under below k k j j (standing_at_depths code pc c r da ra o)
+  counts_at : (pc : ℕ) (c : List ℕ) (r da ra : List (Option ℕ)) (o : World) (under k below j : ℕ) → length c ≡ under + k → length r ≡ below + j → Counts under below k k j j (standing_at_depths (machine_at code pc r da ra) c o)
   counts_at pc c r da ra o under k below j e f =
       record {
         depth = ap pos e;
@@ -82,52 +82,52 @@ module _ (data_start : ℕ) (code : List ℕ) (size : length code ≡ data_start
 
   row_holds_at : (is : List Instr) (pc q : ℕ) (c : List ℕ) (r da ra : List (Option ℕ)) (o : World) (under k below j hi return_high : ℕ) → length c ≡ under + k →
       length r ≡ below + j → stays to_end hi return_high is k k j j ≡ true → HasAll code pc is q →
-      RowHolds data_start code size to_end under below hi return_high is (standing_at_depths code pc c r da ra o)
+      RowHolds data_start code size to_end under below hi return_high is (standing_at_depths (machine_at code pc r da ra) c o)
   row_holds_at is pc q c r da ra o under k below j hi return_high e f st has =
-      row data_start code size to_end under below hi return_high is q k k j j (standing_at_depths code pc c r da ra o) None refl st has (o.space, refl) (counts_at pc c r da ra o under k below j e f)
+      row data_start code size to_end under below hi return_high is q k k j j (standing_at_depths (machine_at code pc r da ra) c o) None refl st has (o.space, refl) (counts_at pc c r da ra o under k below j e f)
 
   -- the counters at the end of a row
   settled : (w : OpenConfiguration) (q : ℕ) (c : List ℕ) (r da ra : List (Option ℕ)) (d b : ℤ) (o : World) (under below k x j y : ℕ) →
-      w ≡ standing code q c r da ra d b o → Counts under below k x j y w → w ≡ standing_at_depths code q c r da ra o
+      w ≡ standing (machine_at code q r da ra) c d b o → Counts under below k x j y w → w ≡ standing_at_depths (machine_at code q r da ra) c o
   settled w q c r da ra d b o under below k x j y e s =
-      let t : Counts under below k x j y (standing code q c r da ra d b o) = subst (Counts under below k x j y) e s in
+      let t : Counts under below k x j y (standing (machine_at code q r da ra) c d b o) = subst (Counts under below k x j y) e s in
       let dd : d ≡ pos (length c) = t.depth ∙ ap pos (sym t.size ∙ size_places c) in
       let bb : b ≡ pos (length r) = t.return_depth ∙ ap pos (sym t.return_size) in
-      e ∙ ap (λ z. standing code q c r da ra z b o) dd ∙ ap (λ z. standing code q c r da ra (pos (length c)) z o) bb
+      e ∙ ap (λ z. standing (machine_at code q r da ra) c z b o) dd ∙ ap (λ z. standing (machine_at code q r da ra) c (pos (length c)) z o) bb
 
   pub row_stays : (is : List Instr) (pc q : ℕ) (c : List ℕ) (r da ra : List (Option ℕ)) (o : World) (under k below j hi return_high : ℕ) →
       length c ≡ under + k → length r ≡ below + j → stays to_end hi return_high is k k j j ≡ true → HasAll code pc is q →
-      BeforeEach (StaysWithin under (under + hi) below (below + return_high)) data_start (length is) (standing_at_depths code pc c r da ra o)
+      BeforeEach (StaysWithin under (under + hi) below (below + return_high)) data_start (length is) (standing_at_depths (machine_at code pc r da ra) c o)
   row_stays is pc q c r da ra o under k below j hi return_high e f st has = (row_holds_at is pc q c r da ra o under k below j hi return_high e f st has).1
 
   -- the end of a run that is ended, where the walk asks so of its end
   pub row_ends : to_end ≡ true →
       (is : List Instr) (pc q : ℕ) (c : List ℕ) (r da ra : List (Option ℕ)) (o : World) (under k below j hi return_high : ℕ) (s : Stop) → length c ≡ under + k →
       length r ≡ below + j → stays to_end hi return_high is k k j j ≡ true → HasAll code pc is q →
-      (run open_storage data_start (length is) (standing_at_depths code pc c r da ra o)).stop ≡ Some s →
-      StaysWithin under (under + hi) below (below + return_high) (run open_storage data_start (length is) (standing_at_depths code pc c r da ra o))
+      (run open_storage data_start (length is) (standing_at_depths (machine_at code pc r da ra) c o)).stop ≡ Some s →
+      StaysWithin under (under + hi) below (below + return_high) (run open_storage data_start (length is) (standing_at_depths (machine_at code pc r da ra) c o))
   row_ends t is pc q c r da ra o under k below j hi return_high s e f st has h =
       let rows = row_holds_at is pc q c r da ra o under k below j hi return_high e f st has in
       let u = rows.2 in
       subst (StaysWithin under (under + hi) below (below + return_high)) (sym rows.0)
-      (within_stopped data_start code size to_end under below hi return_high u.0 u.1 u.2 u.3 (feed data_start is (standing_at_depths code pc c r da ra o)) s (ap (λ w. w.stop) (sym rows.0) ∙ h) (u.5 t) u.4)
+      (within_stopped data_start code size to_end under below hi return_high u.0 u.1 u.2 u.3 (feed data_start is (standing_at_depths (machine_at code pc r da ra) c o)) s (ap (λ w. w.stop) (sym rows.0) ∙ h) (u.5 t) u.4)
 
   -- what is meant, at the end of a row
   pub row_comes : (is : List Instr) (pc q : ℕ) (c : List ℕ) (r base da ra : List (Option ℕ)) (o : World) (under k below j hi return_high : ℕ) (x : Outcome) →
       length c ≡ under + k → length r ≡ below + j → stays to_end hi return_high is k k j j ≡ true → HasAll code pc is q →
-      RowMeans code (past pc is) base (data_past (pos (length c)) is) (return_past (pos (length r)) is) (feed data_start is (standing_at_depths code pc c r da ra o)) x → MayEnd x →
-      HasCome code q base (run open_storage data_start (length is) (standing_at_depths code pc c r da ra o)) x
+      RowMeans code (past pc is) base (data_past (pos (length c)) is) (return_past (pos (length r)) is) (feed data_start is (standing_at_depths (machine_at code pc r da ra) c o)) x → MayEnd x →
+      HasCome code q base (run open_storage data_start (length is) (standing_at_depths (machine_at code pc r da ra) c o)) x
   row_comes is pc q c r base da ra o under k below j hi return_high (Goes s) e f st has h m =
       let rows = row_holds_at is pc q c r da ra o under k below j hi return_high e f st has in
       let u = rows.2 in (
         h.0,
         h.1,
-        rows.0 ∙ settled (feed data_start is (standing_at_depths code pc c r da ra o)) q s.cells (return_places s.entries base) h.0 h.1 _ _ s.world under below u.0 u.1 u.2 u.3
-            (h.2 ∙ ap (λ p. standing code p s.cells (return_places s.entries base) h.0 h.1 (data_past (pos (length c)) is) (return_past (pos (length r)) is) s.world) (past_is code is pc q has)) u.4,
+        rows.0 ∙ settled (feed data_start is (standing_at_depths (machine_at code pc r da ra) c o)) q s.cells (return_places s.entries base) h.0 h.1 _ _ s.world under below u.0 u.1 u.2 u.3
+            (h.2 ∙ ap (λ p. standing (machine_at code p (return_places s.entries base) h.0 h.1) s.cells (data_past (pos (length c)) is) (return_past (pos (length r)) is) s.world) (past_is code is pc q has)) u.4,
       )
   row_comes is pc q c r base da ra o under k below j hi return_high (Ends end world) e f st has h m =
       let rows = row_holds_at is pc q c r da ra o under k below j hi return_high e f st has in
-      (m.0, m.1, ended (run open_storage data_start (length is) (standing_at_depths code pc c r da ra o)) (feed data_start is (standing_at_depths code pc c r da ra o)) world (machine_end end) m.0 rows.0 m.1 h)
+      (m.0, m.1, ended (run open_storage data_start (length is) (standing_at_depths (machine_at code pc r da ra) c o)) (feed data_start is (standing_at_depths (machine_at code pc r da ra) c o)) world (machine_end end) m.0 rows.0 m.1 h)
     where
       ended : (w v : OpenConfiguration) (world : World) (x : Option Stop) (stop : Stop) → w ≡ v → x ≡ Some stop → RowEnds v code x world → EndedIn w code stop world
       ended w v world x stop e f h = subst (λ u. EndedIn u code stop world) (sym e) (subst (λ y. RowEnds v code y world) f h)

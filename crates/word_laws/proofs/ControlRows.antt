@@ -13,7 +13,7 @@ use Rattle.j1_simulator.specs.Step.{By, effect_at}
 use Rattle.j1_simulator.specs.OpenMachine.{top_cell, rest, open_storage}
 use Rattle.j1_simulator.specs.Run.{after_effect}
 use Rattle.word_laws.specs.Rings.{OpenConfiguration, WritesAbove, writes_return}
-use Rattle.word_laws.specs.Standing.{data_places, return_places, standing, standing_at_depths, standing_as, EndedIn}
+use Rattle.word_laws.specs.Standing.{data_places, return_places, standing, standing_at_depths, standing_as, EndedIn, machine_at}
 use Rattle.word_laws.specs.Control.{HoldsInstruction, LeadsTo, JumpLeads, CallLeads, ReturnLeads, BranchLeads, BranchPasses, halt_cells, HaltEnds}
 use Rattle.word_laws.proofs.Steps.{effect_here}
 use Rattle.word_laws.proofs.Heights.{counter_moves}
@@ -22,13 +22,13 @@ use Rattle.word_laws.proofs.CellRows.{height_places, height_length, has_all, row
 
 -- an instruction of a known effect
 leads : (data_start : ℕ) (i : Instr) (pc : ℕ) (code c : List ℕ) (r da ra : List (Option ℕ)) (o : World) (to : OpenConfiguration) → HoldsInstruction code pc i →
-    after_effect None open_storage data_start (effect pc i) (standing_at_depths code pc c r da ra o) ≡ to →
+    after_effect None open_storage data_start (effect pc i) (standing_at_depths (machine_at code pc r da ra) c o) ≡ to →
     WritesAbove (effect pc i).data_move (effect pc i).t_to_n → WritesAbove (effect pc i).return_move (writes_return (effect pc i).return_write) →
-    LeadsTo data_start (length c) (length r) (standing_at_depths code pc c r da ra o) to
+    LeadsTo data_start (length c) (length r) (standing_at_depths (machine_at code pc r da ra) c o) to
 leads data_start i pc code c r da ra o to has e cd cb =
-    let same : effect_at (standing_at_depths code pc c r da ra o).core ≡ effect pc i = effect_here code (standing_at_depths code pc c r da ra o) i (o.space, refl) has.0 has.1 in
+    let same : effect_at (standing_at_depths (machine_at code pc r da ra) c o).core ≡ effect pc i = effect_here code (standing_at_depths (machine_at code pc r da ra) c o) i (o.space, refl) has.0 has.1 in
     record {
-      makes = ap (λ f. after_effect None open_storage data_start f (standing_at_depths code pc c r da ra o)) same ∙ e;
+      makes = ap (λ f. after_effect None open_storage data_start f (standing_at_depths (machine_at code pc r da ra) c o)) same ∙ e;
       bounds = (
         record {
           depth = length c;
@@ -49,8 +49,8 @@ leads data_start i pc code c r da ra o to has e cd cb =
     }
 
 -- counters under their names
-named : (code : List ℕ) (pc : ℕ) (c : List ℕ) (r da ra : List (Option ℕ)) (d b : ℤ) (o : World) → d ≡ pos (length c) → b ≡ pos (length r) → standing code pc c r da ra d b o ≡ standing_at_depths code pc c r da ra o
-named code pc c r da ra d b o e f = ap (λ z. standing code pc c r da ra z b o) e ∙ ap (λ z. standing code pc c r da ra (pos (length c)) z o) f
+named : (code : List ℕ) (pc : ℕ) (c : List ℕ) (r da ra : List (Option ℕ)) (d b : ℤ) (o : World) → d ≡ pos (length c) → b ≡ pos (length r) → standing (machine_at code pc r da ra) c d b o ≡ standing_at_depths (machine_at code pc r da ra) c o
+named code pc c r da ra d b o e f = ap (λ z. standing (machine_at code pc r da ra) c z b o) e ∙ ap (λ z. standing (machine_at code pc r da ra) c (pos (length c)) z o) f
 
 still : (n : ℕ) → pos n +ℤ pos 0 ≡ pos n
 still n = ap pos (omega arith)
@@ -62,31 +62,37 @@ down_one : (n : ℕ) → pos (suc n) +ℤ negsuc 0 ≡ pos n
 down_one n = let e : suc n ≡ n + 1 = omega arith in let f : n + 0 ≡ n = omega arith in ap (λ z. pos z +ℤ negsuc 0) e ∙ counter_moves (negsuc 0) n 1 0 refl ∙ ap pos f
 
 pub jump_leads : JumpLeads
-jump_leads data_start target pc code c r da ra o has =
-    leads data_start (Jump target) pc code c r da ra o _ has (named code target c r da ra _ _ o (still (length c)) (still (length r))) tt tt
+jump_leads data_start target m c o has =
+    leads data_start (Jump target) m.pc m.code c m.returns m.data_above m.return_above o _ has (named m.code target c m.returns m.data_above m.return_above _ _ o (still (length c)) (still (length m.returns))) tt tt
 
 pub call_leads : CallLeads
-call_leads data_start target pc code c r da ra o has =
-    leads data_start (Call target) pc code c r da ra o _ has (named code target c (Some (2 * following pc) ∷ r) da (rest ra) _ _ o (still (length c)) (up_one (length r))) tt refl
+call_leads data_start target m c o has =
+    leads data_start (Call target) m.pc m.code c m.returns m.data_above m.return_above o _ has
+    (named m.code target c (Some (2 * following m.pc) ∷ m.returns) m.data_above (rest m.return_above) _ _ o (still (length c)) (up_one (length m.returns)))
+    tt refl
 
 pub return_leads : ReturnLeads
-return_leads data_start address pc code c r da ra o has =
-    leads data_start (decoded 0x700C) pc code c (Some address ∷ r) da ra o _ has (named code (address / 2 % 0x2000) c r da (Some address ∷ ra) _ _ o (still (length c)) (down_one (length r))) tt tt
+return_leads data_start address m c o has =
+    leads data_start (decoded 0x700C) m.pc m.code c (Some address ∷ m.returns) m.data_above m.return_above o _ has
+    (named m.code (address / 2 % 0x2000) c m.returns m.data_above (Some address ∷ m.return_above) _ _ o (still (length c)) (down_one (length m.returns))) tt
+    tt
 
 pub branch_leads : BranchLeads
-branch_leads data_start target pc code c r da ra o has =
-    leads data_start (Branch target) pc code (0 ∷ c) r da ra o _ has (named code target c r (top_cell (data_places c) ∷ da) ra _ _ o (down_one (length c)) (still (length r))) tt tt
+branch_leads data_start target m c o has =
+    leads data_start (Branch target) m.pc m.code (0 ∷ c) m.returns m.data_above m.return_above o _ has
+    (named m.code target c m.returns (top_cell (data_places c) ∷ m.data_above) m.return_above _ _ o (down_one (length c)) (still (length m.returns))) tt tt
 
 pub branch_passes : BranchPasses
-branch_passes data_start target pc n code c r da ra o has =
-    leads data_start (Branch target) pc code (suc n ∷ c) r da ra o _ has
-    (ap (λ b. standing code (if b then target else following pc) c r (top_cell (data_places c) ∷ da) ra (pos (suc (length c)) +ℤ negsuc 0) (pos (length r) +ℤ pos 0) o) (not_zero n)
-    ∙ named code (following pc) c r (top_cell (data_places c) ∷ da) ra _ _ o (down_one (length c)) (still (length r))) tt tt
+branch_passes data_start target n m c o has =
+    leads data_start (Branch target) m.pc m.code (suc n ∷ c) m.returns m.data_above m.return_above o _ has
+    (ap (λ b. standing (machine_at m.code (if b then target else following m.pc) m.returns (top_cell (data_places c) ∷ m.data_above) m.return_above) c (pos (suc (length c)) +ℤ negsuc 0) (pos (length m.returns) +ℤ pos 0) o) (not_zero n)
+    ∙ named m.code (following m.pc) c m.returns (top_cell (data_places c) ∷ m.data_above) m.return_above _ _ o (down_one (length c)) (still (length m.returns))) tt tt
   where
     not_zero : (v : ℕ) → (suc v == 0) ≡ false
     not_zero v = ⊎_elim (λ t. absurd (omega (arith, t.1))) (λ t. t.0) (eqb_tells (suc v) 0)
 
-halt_row : (data_start : ℕ) (code : List ℕ) (pc : ℕ) (c : List ℕ) (r da ra : List (Option ℕ)) (d b : ℤ) (o : World) → EndedIn (feed data_start (map decoded halt_cells) (standing code pc c r da ra d b o)) code (By (chip.Halted 0)) o
+halt_row : (data_start : ℕ) (code : List ℕ) (pc : ℕ) (c : List ℕ) (r da ra : List (Option ℕ)) (d b : ℤ) (o : World) →
+    EndedIn (feed data_start (map decoded halt_cells) (standing (machine_at code pc r da ra) c d b o)) code (By (chip.Halted 0)) o
 halt_row data_start code pc [] r da ra d b o = record { stop_is = refl; memory = refl; input = refl; printed = refl }
 halt_row data_start code pc (x ∷ c) r da ra d b o = record { stop_is = refl; memory = refl; input = refl; printed = refl }
 
@@ -94,16 +100,16 @@ nothing_more : (n : ℕ) → n ≡ n + 0
 nothing_more n = omega arith
 
 pub halt_ends : HaltEnds
-halt_ends code pc next s base da ra size stand =
-    let r = return_places s.entries base in
-    let has = has_all code halt_cells pc next stand in
+halt_ends m next s size stand =
+    let r = return_places s.entries m.returns in
+    let has = has_all m.code halt_cells m.pc next stand in
     let c = nothing_more (length s.cells) in
-    let b = nothing_more (length (return_places s.entries base)) in
-    let come = row_comes s.world.data_start code size true (map decoded halt_cells) pc next s.cells r base da ra s.world (length s.cells) 0 (length r) 0 2 0 (Ends (Halted 0) s.world) c b refl has
-    (halt_row s.world.data_start code pc s.cells r da ra (pos (length s.cells)) (pos (length r)) s.world) (By (chip.Halted 0), refl) in (
+    let b = nothing_more (length (return_places s.entries m.returns)) in
+    let come = row_comes s.world.data_start m.code size true (map decoded halt_cells) m.pc next s.cells r m.returns m.data_above m.return_above s.world (length s.cells) 0 (length r) 0 2 0 (Ends (Halted 0) s.world) c b refl has
+    (halt_row s.world.data_start m.code m.pc s.cells r m.data_above m.return_above (pos (length s.cells)) (pos (length r)) s.world) (By (chip.Halted 0), refl) in (
       come,
-      each_widens s.world.data_start _ _ _ _ _ _ _ _ 3 (standing_as s code pc base da ra) (omega arith) (omega arith) (omega arith) (omega arith)
-          (row_stays s.world.data_start code size true (map decoded halt_cells) pc next s.cells r da ra s.world (length s.cells) 0 (length r) 0 2 0 c b refl has),
-      within_widens _ _ _ _ _ _ _ _ (omega arith) (omega arith) (omega arith) (omega arith) (run open_storage s.world.data_start 3 (standing_as s code pc base da ra))
-          (row_ends s.world.data_start code size true refl (map decoded halt_cells) pc next s.cells r da ra s.world (length s.cells) 0 (length r) 0 2 0 come.0 c b refl has come.2.stop_is),
+      each_widens s.world.data_start _ _ _ _ _ _ _ _ 3 (standing_as s m) (omega arith) (omega arith) (omega arith) (omega arith)
+          (row_stays s.world.data_start m.code size true (map decoded halt_cells) m.pc next s.cells r m.data_above m.return_above s.world (length s.cells) 0 (length r) 0 2 0 c b refl has),
+      within_widens _ _ _ _ _ _ _ _ (omega arith) (omega arith) (omega arith) (omega arith) (run open_storage s.world.data_start 3 (standing_as s m))
+          (row_ends s.world.data_start m.code size true refl (map decoded halt_cells) m.pc next s.cells r m.data_above m.return_above s.world (length s.cells) 0 (length r) 0 2 0 come.0 c b refl has come.2.stop_is),
     )

@@ -70,53 +70,53 @@ parts : (k n : ℕ) → k ≤ n → n ≡ (n - k) + k
 parts k n h = omega arith
 
 pub words_do_their_meaning : WordsDoTheirMeaning
-words_do_their_meaning p word code pc next s base da ra r =
-    subst (λ n. HasCome code next base (run open_storage s.world.data_start n (standing_as s code pc base da ra)) (word_step p word s.cells s.entries s)) (as_many s.world.data_start word)
-    (row_comes s.world.data_start code r.code_size false (instructions_of s.world.data_start word) pc next s.cells (return_places s.entries base) base da ra s.world
-    (length s.cells - (entry_of word).need) (entry_of word).need (length (return_places s.entries base) - return_need word) (return_need word)
+words_do_their_meaning p word m next s r =
+    subst (λ n. HasCome m.code next m.returns (run open_storage s.world.data_start n (standing_as s m)) (word_step p word s.cells s.entries s)) (as_many s.world.data_start word)
+    (row_comes s.world.data_start m.code r.code_size false (instructions_of s.world.data_start word) m.pc next s.cells (return_places s.entries m.returns) m.returns m.data_above m.return_above s.world
+    (length s.cells - (entry_of word).need) (entry_of word).need (length (return_places s.entries m.returns) - return_need word) (return_need word)
     ((entry_of word).need + (entry_of word).peak) (return_need word + (entry_of word).back) (word_step p word s.cells s.entries s)
     (parts (entry_of word).need (length s.cells) r.need)
-    (parts (return_need word) (length (return_places s.entries base)) (return_places_found word s.entries base r.finds))
+    (parts (return_need word) (length (return_places s.entries m.returns)) (return_places_found word s.entries m.returns r.finds))
     (when (stands_plain word) (word_stays s.world.data_start false word ≡ true) r.plain (words_stay s.world.data_start word))
-    (word_stands s.world.data_start word code pc next r.in_code)
-    (when (stands_plain word) (Row p s.work s.callers s.world code r.code_size base pc da ra (pos (length s.cells)) (pos (length (return_places s.entries base))) word s.cells s.entries) r.plain
-    (word_row p s.work s.callers s.world code r.code_size base pc da ra (pos (length s.cells)) (pos (length (return_places s.entries base))) word s.cells s.entries refl r.cells r.entries r.applies))
+    (word_stands s.world.data_start word m.code m.pc next r.in_code)
+    (when (stands_plain word) (Row p s.work s.callers s.world m.code r.code_size m.returns m.pc m.data_above m.return_above (pos (length s.cells)) (pos (length (return_places s.entries m.returns))) word s.cells s.entries) r.plain
+    (word_row p s.work s.callers s.world m.code r.code_size m.returns m.pc m.data_above m.return_above (pos (length s.cells)) (pos (length (return_places s.entries m.returns))) word s.cells s.entries refl r.cells r.entries r.applies))
     (may_end (word_step p word s.cells s.entries s)
     (when (stands_plain word) (lacks (word_step p word s.cells s.entries s) ≡ false) r.plain (finds p s word s.cells s.entries r.need r.finds))))
 
 pub words_keep_their_bounds : WordsKeepTheirBounds
-words_keep_their_bounds word code pc next s base da ra r =
+words_keep_their_bounds word m next s r =
     let c = parts (entry_of word).need (length s.cells) r.need in
-    let b = parts (return_need word) (length (return_places s.entries base)) (return_places_found word s.entries base r.finds) in
+    let b = parts (return_need word) (length (return_places s.entries m.returns)) (return_places_found word s.entries m.returns r.finds) in
     subst
     (λ n.
     BeforeEach
     (StaysWithin (length s.cells - (entry_of word).need) (length s.cells + (entry_of word).peak)
-    (length (return_places s.entries base) - return_need word) (length (return_places s.entries base) + (entry_of word).back)) s.world.data_start n
-    (standing_as s code pc base da ra)) (as_many s.world.data_start word)
-    (each_widens s.world.data_start _ _ _ _ _ _ _ _ (length (instructions_of s.world.data_start word)) (standing_as s code pc base da ra) (omega arith) (omega (arith, c)) (omega arith) (omega (arith, b))
-    (row_stays s.world.data_start code r.code_size false (instructions_of s.world.data_start word) pc next s.cells (return_places s.entries base) da ra s.world
-    (length s.cells - (entry_of word).need) (entry_of word).need (length (return_places s.entries base) - return_need word) (return_need word)
+    (length (return_places s.entries m.returns) - return_need word) (length (return_places s.entries m.returns) + (entry_of word).back)) s.world.data_start n
+    (standing_as s m)) (as_many s.world.data_start word)
+    (each_widens s.world.data_start _ _ _ _ _ _ _ _ (length (instructions_of s.world.data_start word)) (standing_as s m) (omega arith) (omega (arith, c)) (omega arith) (omega (arith, b))
+    (row_stays s.world.data_start m.code r.code_size false (instructions_of s.world.data_start word) m.pc next s.cells (return_places s.entries m.returns) m.data_above m.return_above s.world
+    (length s.cells - (entry_of word).need) (entry_of word).need (length (return_places s.entries m.returns) - return_need word) (return_need word)
     ((entry_of word).need + (entry_of word).peak) (return_need word + (entry_of word).back) c b
     (when (stands_plain word) (word_stays s.world.data_start false word ≡ true) r.plain (words_stay s.world.data_start word))
-    (word_stands s.world.data_start word code pc next r.in_code)))
+    (word_stands s.world.data_start word m.code m.pc next r.in_code)))
 
 pub words_end_within_bounds : WordsEndWithinBounds
-words_end_within_bounds p word code pc next s base da ra end world r ends =
+words_end_within_bounds p word m next s end world r ends =
     let c = parts (entry_of word).need (length s.cells) r.need in
-    let b = parts (return_need word) (length (return_places s.entries base)) (return_places_found word s.entries base r.finds) in
-    let has = word_stands s.world.data_start word code pc next r.in_code in
-    let w = standing_as s code pc base da ra in
-    let come = subst (HasCome code next base (run open_storage s.world.data_start (length (cells_of word)) w)) ends (words_do_their_meaning p word code pc next s base da ra r) in
+    let b = parts (return_need word) (length (return_places s.entries m.returns)) (return_places_found word s.entries m.returns r.finds) in
+    let has = word_stands s.world.data_start word m.code m.pc next r.in_code in
+    let w = standing_as s m in
+    let come = subst (HasCome m.code next m.returns (run open_storage s.world.data_start (length (cells_of word)) w)) ends (words_do_their_meaning p word m next s r) in
     let many = as_many s.world.data_start word in
     subst
     (λ n.
     StaysWithin (length s.cells - (entry_of word).need) (length s.cells + (entry_of word).peak)
-    (length (return_places s.entries base) - return_need word) (length (return_places s.entries base) + (entry_of word).back)
+    (length (return_places s.entries m.returns) - return_need word) (length (return_places s.entries m.returns) + (entry_of word).back)
     (run open_storage s.world.data_start n w)) many
     (within_widens _ _ _ _ _ _ _ _ (omega arith) (omega (arith, c)) (omega arith) (omega (arith, b)) (run open_storage s.world.data_start (length (instructions_of s.world.data_start word)) w)
-    (row_ends s.world.data_start code r.code_size true refl (instructions_of s.world.data_start word) pc next s.cells (return_places s.entries base) da ra s.world
-    (length s.cells - (entry_of word).need) (entry_of word).need (length (return_places s.entries base) - return_need word) (return_need word)
+    (row_ends s.world.data_start m.code r.code_size true refl (instructions_of s.world.data_start word) m.pc next s.cells (return_places s.entries m.returns) m.data_above m.return_above s.world
+    (length s.cells - (entry_of word).need) (entry_of word).need (length (return_places s.entries m.returns) - return_need word) (return_need word)
     ((entry_of word).need + (entry_of word).peak) (return_need word + (entry_of word).back) come.0 c b
     (when (stands_plain word) (word_stays s.world.data_start true word ≡ true) r.plain (ends_stay s.world.data_start p s word s.cells s.entries end world r.need ends))
     has (ap (λ n. (run open_storage s.world.data_start n w).stop) many ∙ come.2.stop_is)))

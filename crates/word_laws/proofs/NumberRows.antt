@@ -11,7 +11,7 @@ use Rattle.j1_simulator.specs.OpenMachine.{rest, open_storage}
 use Rattle.j1_simulator.specs.Run.{run}
 use Rattle.word_laws.specs.Rings.{BeforeEach}
 use Rattle.word_laws.specs.Bounds.{StaysWithin}
-use Rattle.word_laws.specs.Standing.{return_places, standing, standing_as, HasCome, StandIn}
+use Rattle.word_laws.specs.Standing.{return_places, standing, standing_as, HasCome, StandIn, machine_at}
 use Rattle.word_laws.specs.Numbers.{NumbersDoTheirMeaning, NumbersKeepTheirBounds}
 use Rattle.word_laws.proofs.Rows.{literal_of, feed, past, data_past, return_past, HasAll}
 use Rattle.word_laws.proofs.Walk.{stays}
@@ -40,36 +40,35 @@ inverted_twice value h = omega arith
 -- a number on the data cells
 number_row : (small : Bool) (value : ℕ) → value < 0x10000 → (data_start : ℕ) (code : List ℕ) (pc : ℕ) (c : List ℕ) (r da ra : List (Option ℕ)) (d b : ℤ) (o : World) →
     (da' : List (Option ℕ)) × (ra' : List (Option ℕ))
-    × (feed data_start (number_instructions small value) (standing code pc c r da ra d b o)
-    ≡ standing code (past pc (number_instructions small value)) (value ∷ c) r da' ra' (data_past d (number_instructions small value))
-    (return_past b (number_instructions small value)) o)
+    × (feed data_start (number_instructions small value) (standing (machine_at code pc r da ra) c d b o)
+    ≡ standing (machine_at code (past pc (number_instructions small value)) r da' ra') (value ∷ c) (data_past d (number_instructions small value)) (return_past b (number_instructions small value)) o)
 number_row true value h data_start code pc [] r da ra d b o = (_, _, refl)
 number_row true value h data_start code pc (y ∷ c) r da ra d b o = (_, _, refl)
 number_row false value h data_start code pc [] r da ra d b o =
-    (rest da, ra, ap (λ x. standing code (following (following pc)) (x ∷ []) r (rest da) ra (d +ℤ pos 1 +ℤ pos 0) (b +ℤ pos 0 +ℤ pos 0) o) (inverted_twice value h))
+    (rest da, ra, ap (λ x. standing (machine_at code (following (following pc)) r (rest da) ra) (x ∷ []) (d +ℤ pos 1 +ℤ pos 0) (b +ℤ pos 0 +ℤ pos 0) o) (inverted_twice value h))
 number_row false value h data_start code pc (y ∷ c) r da ra d b o =
-    (rest da, ra, ap (λ x. standing code (following (following pc)) (x ∷ y ∷ c) r (rest da) ra (d +ℤ pos 1 +ℤ pos 0) (b +ℤ pos 0 +ℤ pos 0) o) (inverted_twice value h))
+    (rest da, ra, ap (λ x. standing (machine_at code (following (following pc)) r (rest da) ra) (x ∷ y ∷ c) (d +ℤ pos 1 +ℤ pos 0) (b +ℤ pos 0 +ℤ pos 0) o) (inverted_twice value h))
 
 nothing_more : (n : ℕ) → n ≡ n + 0
 nothing_more n = omega arith
 
 pub numbers_do_their_meaning : NumbersDoTheirMeaning
-numbers_do_their_meaning p after value code pc next s base da ra r =
+numbers_do_their_meaning p after value m next s r =
     let small = nat_lt value 0x8000 in
-    subst (λ n. HasCome code next base (run open_storage s.world.data_start n (standing_as s code pc base da ra)) (act p (IsLiteral value after) s)) (number_size small value)
-    (row_comes s.world.data_start code r.code_size false (number_instructions small value) pc next s.cells (return_places s.entries base) base da ra s.world
-    (length s.cells) 0 (length (return_places s.entries base)) 0 1 0 (act p (IsLiteral value after) s)
-    (nothing_more (length s.cells)) (nothing_more (length (return_places s.entries base))) (number_walk small value) (number_has_all small value code pc next r.in_code)
-    (number_row small value r.is_cell s.world.data_start code pc s.cells (return_places s.entries base) da ra (pos (length s.cells)) (pos (length (return_places s.entries base))) s.world) tt)
+    subst (λ n. HasCome m.code next m.returns (run open_storage s.world.data_start n (standing_as s m)) (act p (IsLiteral value after) s)) (number_size small value)
+    (row_comes s.world.data_start m.code r.code_size false (number_instructions small value) m.pc next s.cells (return_places s.entries m.returns) m.returns m.data_above m.return_above s.world
+    (length s.cells) 0 (length (return_places s.entries m.returns)) 0 1 0 (act p (IsLiteral value after) s)
+    (nothing_more (length s.cells)) (nothing_more (length (return_places s.entries m.returns))) (number_walk small value) (number_has_all small value m.code m.pc next r.in_code)
+    (number_row small value r.is_cell s.world.data_start m.code m.pc s.cells (return_places s.entries m.returns) m.data_above m.return_above (pos (length s.cells)) (pos (length (return_places s.entries m.returns))) s.world) tt)
 
 pub numbers_keep_their_bounds : NumbersKeepTheirBounds
-numbers_keep_their_bounds value code pc next s base da ra r =
+numbers_keep_their_bounds value m next s r =
     let small = nat_lt value 0x8000 in
     subst
     (λ n.
-    BeforeEach (StaysWithin (length s.cells) (length s.cells + 1) (length (return_places s.entries base)) (length (return_places s.entries base)))
-    s.world.data_start n (standing_as s code pc base da ra)) (number_size small value)
-    (each_widens s.world.data_start _ _ _ _ _ _ _ _ (length (number_instructions small value)) (standing_as s code pc base da ra) (omega arith) (omega arith) (omega arith) (omega arith)
-    (row_stays s.world.data_start code r.code_size false (number_instructions small value) pc next s.cells (return_places s.entries base) da ra s.world
-    (length s.cells) 0 (length (return_places s.entries base)) 0 1 0
-    (nothing_more (length s.cells)) (nothing_more (length (return_places s.entries base))) (number_walk small value) (number_has_all small value code pc next r.in_code)))
+    BeforeEach (StaysWithin (length s.cells) (length s.cells + 1) (length (return_places s.entries m.returns)) (length (return_places s.entries m.returns)))
+    s.world.data_start n (standing_as s m)) (number_size small value)
+    (each_widens s.world.data_start _ _ _ _ _ _ _ _ (length (number_instructions small value)) (standing_as s m) (omega arith) (omega arith) (omega arith) (omega arith)
+    (row_stays s.world.data_start m.code r.code_size false (number_instructions small value) m.pc next s.cells (return_places s.entries m.returns) m.data_above m.return_above s.world
+    (length s.cells) 0 (length (return_places s.entries m.returns)) 0 1 0
+    (nothing_more (length s.cells)) (nothing_more (length (return_places s.entries m.returns))) (number_walk small value) (number_has_all small value m.code m.pc next r.in_code)))

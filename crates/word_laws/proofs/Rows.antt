@@ -15,7 +15,7 @@ use Rattle.j1_simulator.specs.OpenMachine.{open_storage}
 use Rattle.j1_simulator.specs.Run.{after_effect}
 use Rattle.word_laws.specs.Rings.{OpenConfiguration}
 use Rattle.word_laws.specs.Control.{HoldsInstruction}
-use Rattle.word_laws.specs.Standing.{return_places, standing, machine_end, EndedIn}
+use Rattle.word_laws.specs.Standing.{return_places, standing, machine_end, EndedIn, machine_at}
 
 -- of a word, where data space begins at an address
 abbrev pub instructions_of : ℕ → Word → List Instr
@@ -88,5 +88,5 @@ RowEnds w code None world = Unit {0}
 -- a machine has come to what is meant, at this place and with these counters; of a lack nothing is said
 abbrev pub RowMeans : List ℕ → ℕ → List (Option ℕ) → ℤ → ℤ → OpenConfiguration → Outcome → Type 0
 RowMeans code q base d b w (Goes s) =
-    (da : List (Option ℕ)) × (ra : List (Option ℕ)) × (w ≡ standing code q s.cells (return_places s.entries base) da ra d b s.world)
+    (da : List (Option ℕ)) × (ra : List (Option ℕ)) × (w ≡ standing (machine_at code q (return_places s.entries base) da ra) s.cells d b s.world)
 RowMeans code q base d b w (Ends end world) = RowEnds w code (machine_end end) world

@@ -17,7 +17,7 @@ use Rattle.j1_simulator.specs.RoundMachine.{around}
 use Rattle.j1_simulator.specs.Effect.{following}
 use Rattle.word_laws.specs.Rings.{OpenConfiguration}
 use Rattle.forth_program.specs.Cells.{AreCells, AreEntries}
-use Rattle.word_laws.specs.Standing.{return_places, standing}
+use Rattle.word_laws.specs.Standing.{return_places, standing, machine_at}
 use Rattle.word_laws.specs.Words.{stands_plain, CellsApply}
 use Rattle.word_laws.proofs.AccessRows.{fetch_row, store_row}
 use Rattle.word_laws.proofs.Rows.{instructions_of, feed, past, data_past, return_past, When, RowMeans}
@@ -64,8 +64,8 @@ module _ (p : SourceProgram) (work : List Work) (callers : List Frame) (o : Worl
 
   -- the same result under other names
   renamed : (w : OpenConfiguration) (q : ℕ) (c c' : List ℕ) (s : State) (da ra : List (Option ℕ)) (d b : ℤ) →
-      w ≡ standing code q c (return_places s.entries base) da ra d b o → c ≡ c' → RowMeans code q base d b w (Goes (record s { cells = c'; world = o }))
-  renamed w q c c' s da ra d b e n = (da, ra, e ∙ ap (λ z. standing code q z (return_places s.entries base) da ra d b o) n)
+      w ≡ standing (machine_at code q (return_places s.entries base) da ra) c d b o → c ≡ c' → RowMeans code q base d b w (Goes (record s { cells = c'; world = o }))
+  renamed w q c c' s da ra d b e n = (da, ra, e ∙ ap (λ z. standing (machine_at code q (return_places s.entries base) da ra) z d b o) n)
 
   top : {x y : ℕ} (c : List ℕ) → x ≡ y → x ∷ c ≡ y ∷ c
   top c e = ap (λ z. z ∷ c) e
@@ -73,7 +73,7 @@ module _ (p : SourceProgram) (work : List Work) (callers : List Frame) (o : Worl
   module _ (pc : ℕ) (da ra : List (Option ℕ)) (d b : ℤ) where
     abbrev pub Row : Word → List ℕ → List Entry → Type 0
     Row word c es = RowMeans code (past pc (instructions_of o.data_start word)) base (data_past d (instructions_of o.data_start word)) (return_past b (instructions_of o.data_start word))
-        (feed o.data_start (instructions_of o.data_start word) (standing code pc c (return_places es base) da ra d b o)) (word_step p word c es (at_state c es))
+        (feed o.data_start (instructions_of o.data_start word) (standing (machine_at code pc (return_places es base) da ra) c d b o)) (word_step p word c es (at_state c es))
 
     pub word_row : (word : Word) (c : List ℕ) (es : List Entry) → d ≡ pos (length c) → AreCells c → AreEntries es → CellsApply word c → When (stands_plain word) (Row word c es)
     word_row Dup (x ∷ c) es n f g h = (_, _, refl)

@@ -20,17 +20,30 @@ return_places [] below = below
 return_places (Cell value ∷ entries) below = Some value ∷ return_places entries below
 return_places (Loop limit index ∷ entries) below = Some (difference_of index limit) ∷ Some limit ∷ return_places entries below
 
--- the open machine at pc, with code before the data space of a world: data cells, the places of the return stack, what was
--- left above both pointers, and the counters, which are the pointers too
-abbrev pub standing : List ℕ → ℕ → List ℕ → List (Option ℕ) → List (Option ℕ) → List (Option ℕ) → ℤ → ℤ → World → OpenConfiguration
-standing code pc c returns data_above return_above data_depth return_depth world =
+-- where the open machine stands: the code before data space, the program counter, the places of the return stack, and what was left above
+-- both pointers
+pub record MachinePlace : Type 0 where
+  pub code : List ℕ
+  pub pc : ℕ
+  pub returns : List (Option ℕ)
+  pub data_above : List (Option ℕ)
+  pub return_above : List (Option ℕ)
+
+-- the same by its parts
+abbrev pub machine_at : List ℕ → ℕ → List (Option ℕ) → List (Option ℕ) → List (Option ℕ) → MachinePlace
+machine_at code pc returns data_above return_above =
+    record { code = code; pc = pc; returns = returns; data_above = data_above; return_above = return_above }
+
+-- the open machine that stands there, with these data cells, the counters, which are the pointers too, and the data space of a world
+abbrev pub standing : MachinePlace → List ℕ → ℤ → ℤ → World → OpenConfiguration
+standing m c data_depth return_depth world =
     record {
       core = record {
-        pc = pc;
+        pc = m.pc;
         t = top_cell (data_places c);
-        data_stack = record { below = rest (data_places c); above = data_above; at = data_depth };
-        return_stack = record { below = returns; above = return_above; at = return_depth };
-        memory = code ++ world.space;
+        data_stack = record { below = rest (data_places c); above = m.data_above; at = data_depth };
+        return_stack = record { below = m.returns; above = m.return_above; at = return_depth };
+        memory = m.code ++ world.space;
       };
       input = world.input;
       printed = world.printed;
@@ -40,13 +53,13 @@ standing code pc c returns data_above return_above data_depth return_depth world
     }
 
 -- the same, where each counter is the number of the cells of its stack
-abbrev pub standing_at_depths : List ℕ → ℕ → List ℕ → List (Option ℕ) → List (Option ℕ) → List (Option ℕ) → World → OpenConfiguration
-standing_at_depths code pc c returns data_above return_above world = standing code pc c returns data_above return_above (pos (length c)) (pos (length returns)) world
+abbrev pub standing_at_depths : MachinePlace → List ℕ → World → OpenConfiguration
+standing_at_depths m c world = standing m c (pos (length c)) (pos (length m.returns)) world
 
--- the open machine that stands as a source, whose entries are over these places. Of the source's world it has data space, the
+-- the open machine that stands as a source, whose entries are over the return places. Of the source's world it has data space, the
 -- input left and the prints; the accesses that the world remembers are no part of it
-abbrev pub standing_as : State → List ℕ → ℕ → List (Option ℕ) → List (Option ℕ) → List (Option ℕ) → OpenConfiguration
-standing_as s code pc base data_above return_above = standing_at_depths code pc s.cells (return_places s.entries base) data_above return_above s.world
+abbrev pub standing_as : State → MachinePlace → OpenConfiguration
+standing_as s m = standing_at_depths (record m { returns = return_places s.entries m.returns }) s.cells s.world
 
 -- the machine's end for an end of a source; it has none for a lack of cells or of return entries
 abbrev pub machine_end : End → Option Stop
@@ -65,7 +78,7 @@ pub record EndedIn (w : OpenConfiguration) (code : List ℕ) (stop : Stop) (worl
 
 -- the machine has come to what a word step leads to: it stands at this place as the state that is left, or has ended as the run
 abbrev pub HasCome : List ℕ → ℕ → List (Option ℕ) → OpenConfiguration → Outcome → Type 0
-HasCome code next base w (Goes s) = (data_above : List (Option ℕ)) × (return_above : List (Option ℕ)) × (w ≡ standing_as s code next base data_above return_above)
+HasCome code next base w (Goes s) = (data_above : List (Option ℕ)) × (return_above : List (Option ℕ)) × (w ≡ standing_as s (machine_at code next base data_above return_above))
 HasCome code next base w (Ends end world) = (stop : Stop) × (machine_end end ≡ Some stop) × EndedIn w code stop world
 
 -- these cells stand in code one after the other: from the place pc up to the place next

@@ -14,7 +14,7 @@ use Rattle.j1_simulator.specs.Run.{run}
 use Rattle.word_laws.specs.Rings.{BeforeEach}
 use Rattle.word_laws.specs.Bounds.{StaysWithin}
 use Rattle.forth_program.specs.Cells.{AreCells, AreEntries, IsWorld}
-use Rattle.word_laws.specs.Standing.{return_places, standing_as, HasCome, StandIn}
+use Rattle.word_laws.specs.Standing.{return_places, standing_as, HasCome, StandIn, MachinePlace}
 
 abbrev pub is_inline : Class → Bool
 is_inline class.Inline = true
@@ -72,27 +72,27 @@ pub record IsReady (word : Word) (code : List ℕ) (pc next : ℕ) (s : State) :
 -- in as many instructions as it has cells, a word's code does what the word means, or has ended as the word ends
 abbrev pub WordsDoTheirMeaning : Type 0
 WordsDoTheirMeaning =
-    (p : SourceProgram) (word : Word) (code : List ℕ) (pc next : ℕ) (s : State) (base data_above return_above : List (Option ℕ)) → IsReady word code pc next s →
-    HasCome code next base (run open_storage s.world.data_start (length (cells_of word)) (standing_as s code pc base data_above return_above)) (word_step p word s.cells s.entries s)
+    (p : SourceProgram) (word : Word) (m : MachinePlace) (next : ℕ) (s : State) → IsReady word m.code m.pc next s →
+    HasCome m.code next m.returns (run open_storage s.world.data_start (length (cells_of word)) (standing_as s m)) (word_step p word s.cells s.entries s)
 
 -- before each of these instructions the data counter stands from what the word's need leaves up to its peak, and the return
 -- counter from what the entries leave that it works on up to its back
 abbrev pub WordsKeepTheirBounds : Type 0
 WordsKeepTheirBounds =
-    (word : Word) (code : List ℕ) (pc next : ℕ) (s : State) (base data_above return_above : List (Option ℕ)) → IsReady word code pc next s →
+    (word : Word) (m : MachinePlace) (next : ℕ) (s : State) → IsReady word m.code m.pc next s →
     BeforeEach
     (StaysWithin (length s.cells - (entry_of word).need) (length s.cells + (entry_of word).peak)
-    (length (return_places s.entries base) - return_need word) (length (return_places s.entries base) + (entry_of word).back))
-    s.world.data_start (length (cells_of word)) (standing_as s code pc base data_above return_above)
+    (length (return_places s.entries m.returns) - return_need word) (length (return_places s.entries m.returns) + (entry_of word).back))
+    s.world.data_start (length (cells_of word)) (standing_as s m)
 
 -- where such a word ends the run, they are within these bounds after these instructions too
 abbrev pub WordsEndWithinBounds : Type 0
 WordsEndWithinBounds =
-    (p : SourceProgram) (word : Word) (code : List ℕ) (pc next : ℕ) (s : State) (base data_above return_above : List (Option ℕ)) (end : End) (world : World) → IsReady word code pc next s →
+    (p : SourceProgram) (word : Word) (m : MachinePlace) (next : ℕ) (s : State) (end : End) (world : World) → IsReady word m.code m.pc next s →
     word_step p word s.cells s.entries s ≡ Ends end world →
     StaysWithin (length s.cells - (entry_of word).need) (length s.cells + (entry_of word).peak)
-    (length (return_places s.entries base) - return_need word) (length (return_places s.entries base) + (entry_of word).back)
-    (run open_storage s.world.data_start (length (cells_of word)) (standing_as s code pc base data_above return_above))
+    (length (return_places s.entries m.returns) - return_need word) (length (return_places s.entries m.returns) + (entry_of word).back)
+    (run open_storage s.world.data_start (length (cells_of word)) (standing_as s m))
 
 -- such a word lacks nothing exactly where the cells are as many as its need, and its entries are found
 abbrev pub NeedsAreExact : Type 0
