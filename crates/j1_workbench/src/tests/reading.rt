@@ -1,368 +1,175 @@
-// Worked texts for the reader and tokens as numbers, with answers from the rules of the language, by hand.
-use forth_reader::{NumberRead, ReadCause, ReadRefusal, Reader, number_of};
+// Worked texts for the reader, with answers from the rules of the language, by hand.
+use super::notation::{bytes_in, field};
+use forth_reader::{ReadRefusal, Reader, Token};
+use std::alloc::{AllocError, Global};
 use std::test::Fail;
 
-// A call of the reader, with the answer that is wanted.
-#[derive(Clone, Copy)]
-enum Call {
-    // The text, the place and the number of a token.
-    Next(&'static str, u32, u32),
-    Name(&'static str, u32, u32),
-    Text(&'static str),
-    // The number of all tokens.
-    NextEnds(u32),
-    NameEnds(u32),
-    // The number of the refused token.
-    NextFails(u32, ReadCause),
-    NameFails(u32, ReadCause),
-    TextFails(u32, ReadCause),
-}
+// A text, and the calls on it in their order: each with the text, the place and the number of its token, a string in quotes, the number of
+// all tokens at the end, or the number of the refused token and the cause.
+const TOKENS: &str = r#"
+                                                                 | next = ends 0
+_^09^0D~                                                         | next = ends 0 & next = ends 0
+: SQUARE DUP * ;                                                 | next = : 0 1 & next = SQUARE 2 2 & next = DUP 9 3 & next = * 13 4 & next = ; 15 5 & next = ends 5
+( a)B( b)C ( c                                                   | next = B( 4 2 & next = b)C 7 3 & next = fails 4 OpenComment
+A ( b ( c ) d ) E                                                | next = A 0 1 & next = d 12 3 & next = ) 14 4 & next = E 16 5 & next = ends 5
+(a) ()                                                           | next = (a) 0 1 & next = () 4 2 & next = ends 2
+(~a~) ( )B                                                       | next = B 9 3 & next = ends 3
+A (                                                              | next = A 0 1 & next = fails 2 OpenComment
+A \                                                              | next = A 0 1 & next = ends 2
+\ a ( b^0D~C\ D\~                                                | next = C\ 9 2 & next = D\ 12 3 & next = ends 3
+ABCDEFGHIJKLMNOPQRSTUVWXYZ12345 ABCDEFGHIJKLMNOPQRSTUVWXYZ123456 | next = ABCDEFGHIJKLMNOPQRSTUVWXYZ12345 0 1 & next = fails 2 NameTooLong
+ABCDEFGHIJKLMNOPQRSTUVWXYZ123456^7F                              | next = fails 1 NotText
+"#;
 
-// Whether the reader gives this refusal by every call.
-fn stays_refused(reader: &mut Reader, token: u32, cause: ReadCause) -> bool {
-    let refusal = ReadRefusal { token, cause };
-    let by_next = match reader.next() {
-        Ok(_) => false,
-        Err(again) => again == refusal,
-    };
-    let by_name = match reader.name() {
-        Ok(_) => false,
-        Err(again) => again == refusal,
-    };
-    let by_string = match reader.string() {
-        Ok(_) => false,
-        Err(again) => again == refusal,
-    };
-    by_next && by_name && by_string
-}
+const STRINGS: &str = r#"
+: ( ( a )                          | next = : 0 1 & name = ( 2 2 & name = ( 4 3 & next = a 6 4 & next = ) 8 5 & name = ends 5
+CHAR \ A                           | next = CHAR 0 1 & name = \ 5 2 & name = A 7 3
+'_                                 | next = ' 0 1 & name = ends 1
+' ABCDEFGHIJKLMNOPQRSTUVWXYZ123456 | next = ' 0 1 & name = fails 2 NameTooLong
+' ^FFA                             | next = ' 0 1 & name = fails 2 NotText
+." "A                              | next = ." 0 1 & string = "" & next = A 4 2
+S"__( a^09^0D" TYPE                | next = S" 0 1 & string = "_(_a^09^0D" & next = TYPE 11 2
+S"^09A"^80                         | next = S" 0 1 & string = "A" & next = fails 2 NotText
+."                                 | next = ." 0 1 & string = fails 1 OpenString
+."~A"                              | next = ." 0 1 & string = fails 1 OpenString
+." A~"                             | next = ." 0 1 & string = fails 1 OpenString
+." A                               | next = ." 0 1 & string = fails 1 OpenString
+." A^00"                           | next = ." 0 1 & string = fails 1 NotText
+"#;
 
-fn answers(reader: &mut Reader, call: Call) -> bool {
-    match call {
-        Call::Next(text, start, number) => match reader.next() {
-            Ok(Some(token)) => {
-                token.text == text && token.start == start && token.number == number
-            }
-            _ => false,
-        },
-        Call::Name(text, start, number) => match reader.name() {
-            Ok(Some(token)) => {
-                token.text == text && token.start == start && token.number == number
-            }
-            _ => false,
-        },
-        Call::Text(text) => match reader.string() {
-            Ok(found) => found == text,
-            Err(_) => false,
-        },
-        Call::NextEnds(count) => match reader.next() {
-            Ok(None) => reader.count() == count,
-            _ => false,
-        },
-        Call::NameEnds(count) => match reader.name() {
-            Ok(None) => reader.count() == count,
-            _ => false,
-        },
-        Call::NextFails(token, cause) => match reader.next() {
-            Ok(_) => false,
-            Err(refusal) => {
-                refusal == ReadRefusal { token, cause } && stays_refused(reader, token, cause)
-            }
-        },
-        Call::NameFails(token, cause) => match reader.name() {
-            Ok(_) => false,
-            Err(refusal) => {
-                refusal == ReadRefusal { token, cause } && stays_refused(reader, token, cause)
-            }
-        },
-        Call::TextFails(token, cause) => match reader.string() {
-            Ok(_) => false,
-            Err(refusal) => {
-                refusal == ReadRefusal { token, cause } && stays_refused(reader, token, cause)
-            }
-        },
+// Where `@` is any byte that is none of a source: in the space, behind a token, a `(` and a `\`, in both comments, behind them, where it
+// belongs to the next token, and in a string.
+const OTHERS: &str = r#"
+@     | next = fails 1 NotText
+_@_   | next = fails 1 NotText
+A@    | next = fails 1 NotText
+(@)   | next = fails 1 NotText
+\@~   | next = fails 1 NotText
+( @)  | next = fails 1 NotText
+\ @~  | next = fails 1 NotText
+( )@  | next = fails 2 NotText
+\~@   | next = fails 2 NotText
+(@    | name = fails 1 NotText
+." @" | next = ." 0 1 & string = fails 1 NotText
+"#;
+
+fn token_told(
+    alloc: Global,
+    answer: Result<Option<Token>, ReadRefusal>,
+    count: u32,
+) -> Result<String, AllocError> {
+    match answer {
+        Ok(Some(token)) => format!(in alloc; "{} {} {}", token.text, token.start, token.number),
+        Ok(None) => format!(in alloc; "ends {count}"),
+        Err(refusal) => refusal_told(alloc, refusal),
     }
+}
+
+fn refusal_told(alloc: Global, refusal: ReadRefusal) -> Result<String, AllocError> {
+    format!(in alloc; "fails {} {:?}", refusal.token, refusal.cause)
+}
+
+fn string_told(alloc: Global, answer: Result<&str, ReadRefusal>) -> Result<String, AllocError> {
+    match answer {
+        Ok(text) => format!(in alloc; "\"{text}\""),
+        Err(refusal) => refusal_told(alloc, refusal),
+    }
+}
+
+// What a call answers.
+fn told(alloc: Global, reader: &mut Reader, call: &str) -> Result<String, AllocError> {
+    if call == "string" {
+        return string_told(alloc, reader.string());
+    }
+    let answer = if call == "name" {
+        reader.name()
+    } else {
+        reader.next()
+    };
+    token_told(alloc, answer, reader.count())
+}
+
+// Whether the reader gives a refusal by every call.
+fn stays_refused(alloc: Global, reader: &mut Reader, refusal: &[u8]) -> Result<bool, AllocError> {
+    for call in "next name string".split(' ') {
+        if *told(alloc, reader, call)?.as_bytes() != *refusal {
+            return Ok(false);
+        }
+    }
+    Ok(true)
+}
+
+fn answers(alloc: Global, reader: &mut Reader, call: &str) -> Result<bool, Fail> {
+    let (call, wanted) = call.split_once('=').ok_or("no call")?;
+    let wanted = bytes_in(alloc, wanted.trim_ascii())?;
+    if *told(alloc, reader, call.trim_ascii())?.as_bytes() != *wanted.as_slice() {
+        return Ok(false);
+    }
+    if !wanted.as_slice().starts_with(b"fails") {
+        return Ok(true);
+    }
+    Ok(stays_refused(alloc, reader, wanted.as_slice())?)
 }
 
 // Whether the calls on this text, in their order, give the answers that are wanted.
-fn reads(bytes: &[u8], calls: &[Call]) -> bool {
+fn reads(alloc: Global, bytes: &[u8], calls: &str) -> Result<bool, Fail> {
     if bytes.len() > 1_000_000 {
-        return false;
+        return Ok(false);
     }
     let mut reader = Reader::new(bytes);
-    for call in calls {
-        if !answers(&mut reader, *call) {
-            return false;
+    for call in calls.split('&') {
+        if !answers(alloc, &mut reader, call)? {
+            return Ok(false);
         }
     }
-    true
+    Ok(true)
 }
 
-#[test]
-fn reads_tokens(rt: HostRuntime) {
-    let rows: [(&[u8], &[Call]); 12] = [
-        (b"", &[Call::NextEnds(0)]),
-        (b" \t\r\n", &[Call::NextEnds(0), Call::NextEnds(0)]),
-        (
-            b": SQUARE DUP * ;",
-            &[
-                Call::Next(":", 0, 1),
-                Call::Next("SQUARE", 2, 2),
-                Call::Next("DUP", 9, 3),
-                Call::Next("*", 13, 4),
-                Call::Next(";", 15, 5),
-                Call::NextEnds(5),
-            ],
-        ),
-        // comments directly at tokens
-        (
-            b"( a)B( b)C ( c",
-            &[
-                Call::Next("B(", 4, 2),
-                Call::Next("b)C", 7, 3),
-                Call::NextFails(4, ReadCause::OpenComment),
-            ],
-        ),
-        (
-            b"A ( b ( c ) d ) E",
-            &[
-                Call::Next("A", 0, 1),
-                Call::Next("d", 12, 3),
-                Call::Next(")", 14, 4),
-                Call::Next("E", 16, 5),
-                Call::NextEnds(5),
-            ],
-        ),
-        (
-            b"(a) ()",
-            &[
-                Call::Next("(a)", 0, 1),
-                Call::Next("()", 4, 2),
-                Call::NextEnds(2),
-            ],
-        ),
-        // a comment over lines, and one of a blank
-        (b"(\na\n) ( )B", &[Call::Next("B", 9, 3), Call::NextEnds(3)]),
-        (
-            b"A (",
-            &[
-                Call::Next("A", 0, 1),
-                Call::NextFails(2, ReadCause::OpenComment),
-            ],
-        ),
-        (b"A \\", &[Call::Next("A", 0, 1), Call::NextEnds(2)]),
-        (
-            b"\\ a ( b\r\nC\\ D\\\n",
-            &[
-                Call::Next("C\\", 9, 2),
-                Call::Next("D\\", 12, 3),
-                Call::NextEnds(3),
-            ],
-        ),
-        (
-            b"ABCDEFGHIJKLMNOPQRSTUVWXYZ12345 ABCDEFGHIJKLMNOPQRSTUVWXYZ123456",
-            &[
-                Call::Next("ABCDEFGHIJKLMNOPQRSTUVWXYZ12345", 0, 1),
-                Call::NextFails(2, ReadCause::NameTooLong),
-            ],
-        ),
-        // the byte behind a token comes before its length
-        (
-            b"ABCDEFGHIJKLMNOPQRSTUVWXYZ123456\x7f",
-            &[Call::NextFails(1, ReadCause::NotText)],
-        ),
-    ];
-    for (bytes, calls) in rows {
-        assert!(rt; reads(bytes, calls), "{bytes:?}");
+// Reads the text of a line with this byte in the places of `@`.
+fn read_row(alloc: Global, line: &str, byte: u8) -> Result<(), Fail> {
+    let mut rest = line;
+    let mut bytes = bytes_in(alloc, field(&mut rest))?;
+    for place in bytes.as_mut_slice() {
+        if *place == b'@' {
+            *place = byte;
+        }
+    }
+    if reads(alloc, bytes.as_slice(), rest)? {
+        Ok(())
+    } else {
+        Ok(Err(line)?)
     }
 }
 
-#[test]
-fn reads_names_and_strings(rt: HostRuntime) {
-    let rows: [(&[u8], &[Call]); 13] = [
-        (
-            b": ( ( a )",
-            &[
-                Call::Next(":", 0, 1),
-                Call::Name("(", 2, 2),
-                Call::Name("(", 4, 3),
-                Call::Next("a", 6, 4),
-                Call::Next(")", 8, 5),
-                Call::NameEnds(5),
-            ],
-        ),
-        (
-            b"CHAR \\ A",
-            &[
-                Call::Next("CHAR", 0, 1),
-                Call::Name("\\", 5, 2),
-                Call::Name("A", 7, 3),
-            ],
-        ),
-        (b"' ", &[Call::Next("'", 0, 1), Call::NameEnds(1)]),
-        (
-            b"' ABCDEFGHIJKLMNOPQRSTUVWXYZ123456",
-            &[
-                Call::Next("'", 0, 1),
-                Call::NameFails(2, ReadCause::NameTooLong),
-            ],
-        ),
-        (
-            b"' \xffA",
-            &[
-                Call::Next("'", 0, 1),
-                Call::NameFails(2, ReadCause::NotText),
-            ],
-        ),
-        // an empty text, and a token directly behind a quote
-        (
-            b".\" \"A",
-            &[
-                Call::Next(".\"", 0, 1),
-                Call::Text(""),
-                Call::Next("A", 4, 2),
-            ],
-        ),
-        // the text keeps its blanks, and a `(` in it begins no comment
-        (
-            b"S\"  ( a\t\r\" TYPE",
-            &[
-                Call::Next("S\"", 0, 1),
-                Call::Text(" ( a\t\r"),
-                Call::Next("TYPE", 11, 2),
-            ],
-        ),
-        (
-            b"S\"\tA\"\x80",
-            &[
-                Call::Next("S\"", 0, 1),
-                Call::Text("A"),
-                Call::NextFails(2, ReadCause::NotText),
-            ],
-        ),
-        (
-            b".\"",
-            &[
-                Call::Next(".\"", 0, 1),
-                Call::TextFails(1, ReadCause::OpenString),
-            ],
-        ),
-        (
-            b".\"\nA\"",
-            &[
-                Call::Next(".\"", 0, 1),
-                Call::TextFails(1, ReadCause::OpenString),
-            ],
-        ),
-        (
-            b".\" A\n\"",
-            &[
-                Call::Next(".\"", 0, 1),
-                Call::TextFails(1, ReadCause::OpenString),
-            ],
-        ),
-        (
-            b".\" A",
-            &[
-                Call::Next(".\"", 0, 1),
-                Call::TextFails(1, ReadCause::OpenString),
-            ],
-        ),
-        (
-            b".\" A\x00\"",
-            &[
-                Call::Next(".\"", 0, 1),
-                Call::TextFails(1, ReadCause::NotText),
-            ],
-        ),
-    ];
-    for (bytes, calls) in rows {
-        assert!(rt; reads(bytes, calls), "{bytes:?}");
+fn read_rows(alloc: Global, table: &str, byte: u8) -> Result<(), Fail> {
+    for line in table.trim_matches('\n').lines() {
+        read_row(alloc, line, byte)?;
     }
+    Ok(())
 }
 
-// Each byte that is none of a source, in the space, behind a token, a `(` and a `\`, in both comments, and in a string.
 #[test]
-fn refuses_other_bytes(rt: HostRuntime) {
-    for byte in [0, 8, 11, 12, 14, 31, 127, 128, 255] {
-        let fails = [Call::NextFails(1, ReadCause::NotText)];
-        assert!(rt; reads(&[byte], &fails));
-        assert!(rt; reads(&[b' ', byte, b' '], &fails));
-        assert!(rt; reads(&[b'A', byte], &fails));
-        assert!(rt; reads(&[b'(', byte, b')'], &fails));
-        assert!(rt; reads(&[b'\\', byte, b'\n'], &fails));
-        assert!(rt; reads(&[b'(', b' ', byte, b')'], &fails));
-        assert!(rt; reads(&[b'\\', b' ', byte, b'\n'], &fails));
-        // behind a whole comment it belongs to the next token
-        let next_fails = [Call::NextFails(2, ReadCause::NotText)];
-        assert!(rt; reads(&[b'(', b' ', b')', byte], &next_fails));
-        assert!(rt; reads(&[b'\\', b'\n', byte], &next_fails));
-        let name_fails = [Call::NameFails(1, ReadCause::NotText)];
-        assert!(rt; reads(&[b'(', byte], &name_fails));
-        let string_fails = [
-            Call::Next(".\"", 0, 1),
-            Call::TextFails(1, ReadCause::NotText),
-        ];
-        assert!(rt; reads(&[b'.', b'"', b' ', byte, b'"'], &string_fails));
+fn reads_tokens(rt: HostRuntime) -> Result<(), Fail> {
+    read_rows(rt.alloc(), TOKENS, b'@')
+}
+
+#[test]
+fn reads_names_and_strings(rt: HostRuntime) -> Result<(), Fail> {
+    read_rows(rt.alloc(), STRINGS, b'@')
+}
+
+#[test]
+fn refuses_other_bytes(rt: HostRuntime) -> Result<(), Fail> {
+    for byte in bytes_in(rt.alloc(), "^00^08^0B^0C^0E^1F^7F^80^FF")?.as_slice() {
+        read_rows(rt.alloc(), OTHERS, *byte)?;
     }
+    Ok(())
 }
 
 #[test]
 fn refuses_a_long_token(rt: HostRuntime) -> Result<(), Fail> {
     let bytes = vec![in rt.alloc(); b'A'; 65536]?;
-    assert!(rt;
-        reads(
-            bytes.as_slice(),
-            &[Call::NextFails(1, ReadCause::NameTooLong)]
-        )
-    );
+    let is_refused = reads(rt.alloc(), bytes.as_slice(), "next = fails 1 NameTooLong")?;
+    assert!(rt; is_refused);
     Ok(())
-}
-
-#[test]
-fn reads_numbers(rt: HostRuntime) {
-    let rows = [
-        ("0", 10, NumberRead::Value(0)),
-        ("0072", 10, NumberRead::Value(72)),
-        ("65535", 10, NumberRead::Value(65535)),
-        ("65536", 10, NumberRead::Range),
-        ("-1", 10, NumberRead::Value(65535)),
-        ("-0", 10, NumberRead::Value(0)),
-        ("-32768", 10, NumberRead::Value(32768)),
-        ("-32769", 10, NumberRead::Range),
-        ("99999999999999999999999999999999", 10, NumberRead::Range),
-        (
-            "9999999999999999999999999999999A",
-            10,
-            NumberRead::NotNumber,
-        ),
-        ("", 10, NumberRead::NotNumber),
-        ("-", 10, NumberRead::NotNumber),
-        ("--1", 10, NumberRead::NotNumber),
-        ("1-", 10, NumberRead::NotNumber),
-        ("+1", 10, NumberRead::NotNumber),
-        ("1.", 10, NumberRead::NotNumber),
-        ("1A", 10, NumberRead::NotNumber),
-        ("1111111111111111", 2, NumberRead::Value(65535)),
-        ("10000000000000000", 2, NumberRead::Range),
-        ("-1000000000000000", 2, NumberRead::Value(32768)),
-        ("2", 2, NumberRead::NotNumber),
-        ("FFFF", 16, NumberRead::Value(65535)),
-        ("ffFf", 16, NumberRead::Value(65535)),
-        ("-8000", 16, NumberRead::Value(32768)),
-        ("10000", 16, NumberRead::Range),
-        ("G", 16, NumberRead::NotNumber),
-        ("@", 16, NumberRead::NotNumber),
-        ("1ekf", 36, NumberRead::Value(65535)),
-        ("1EKG", 36, NumberRead::Range),
-        ("Z", 36, NumberRead::Value(35)),
-        ("[", 36, NumberRead::NotNumber),
-        ("{", 36, NumberRead::NotNumber),
-        ("0", 0, NumberRead::NotNumber),
-        ("0", 1, NumberRead::NotNumber),
-        ("0", 37, NumberRead::NotNumber),
-        ("0", 65535, NumberRead::NotNumber),
-    ];
-    for (text, base, wanted) in rows {
-        assert_eq!(rt; number_of(text, base), wanted, "{text} in base {base}");
-    }
 }

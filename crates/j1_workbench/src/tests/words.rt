@@ -1,7 +1,8 @@
 // The table of words, written down by hand from its rules, against the crate's.
-use super::vectors::cells_in;
+use super::notation::{cells_in, field};
+use std::alloc::Global;
 use std::test::Fail;
-use word_table::{Class, WordEntry, entry, plain_cells, word_of};
+use word_table::{Class, Word, WordEntry, entry, plain_cells, word_of};
 
 // The lines of `docs/WORDS.md`: name, class, stack, need, exit, peak, back, price, weight, cells in hexadecimal, meaning.
 const TABLE: &str = r#"
@@ -155,69 +156,55 @@ R> R@ RECURSE REPEAT ROT RSHIFT S" S>D SIGN SM/REM SOURCE SPACE SPACES STATE SWA
 UNTIL VARIABLE WHILE WORD XOR [ ['] [CHAR] ]
 "#;
 
-// What a line says of a word.
-#[derive(Clone, Copy)]
-struct Row<'a> {
-    name: &'a str,
-    stack: &'a str,
-    entry: WordEntry,
-    cells: &'a str,
+fn class_name(class: Class) -> &'static str {
+    match class {
+        Class::Inline => "inline",
+        Class::Library => "library",
+        Class::Structure => "structure",
+        Class::Host => "host",
+    }
 }
 
-fn class_in(text: &str) -> Option<Class> {
-    match text {
-        "inline" => Some(Class::Inline),
-        "library" => Some(Class::Library),
-        "structure" => Some(Class::Structure),
-        "host" => Some(Class::Host),
-        _ => None,
+fn is_number(field: &str, number: u32) -> bool {
+    match field.parse::<u32>() {
+        Ok(told) => told == number,
+        Err(_) => false,
+    }
+}
+
+fn is_change(field: &str, change: i8) -> bool {
+    match field.parse::<i8>() {
+        Ok(told) => told == change,
+        Err(_) => false,
     }
 }
 
 // A change that is one number or goes from one to another; `-` stands for none.
-fn exit_in(text: &str) -> Option<Option<(i8, i8)>> {
-    if text == "-" {
-        return Some(None);
+fn is_exit(field: &str, exit: Option<(i8, i8)>) -> bool {
+    match exit {
+        Some((low, high)) => {
+            let (from, to) = field.split_once(" to ").unwrap_or((field, field));
+            is_change(from, low) && is_change(to, high)
+        }
+        None => field == "-",
     }
-    let (low, high) = text.split_once(" to ").unwrap_or((text, text));
-    Some(Some((low.parse::<i8>().ok()?, high.parse::<i8>().ok()?)))
 }
 
 // A price that is one number, or a number and that for each of what the word counts.
-fn price_in(text: &str) -> Option<(u32, u32)> {
-    let (base, per) = text.split_once(" + ").unwrap_or((text, "0"));
-    Some((base.parse::<u32>().ok()?, per.parse::<u32>().ok()?))
+fn is_price(field: &str, base: u32, per: u32) -> bool {
+    let (first, second) = field.split_once(" + ").unwrap_or((field, "0"));
+    is_number(first, base) && is_number(second, per)
 }
 
-fn row_in(line: &str) -> Option<Row<'_>> {
-    let mut fields = line.split('|');
-    fields.next()?;
-    let name = fields.next()?.trim_ascii().trim_matches('`');
-    let class = class_in(fields.next()?.trim_ascii())?;
-    let stack = fields.next()?;
-    let need = fields.next()?.trim_ascii().parse::<u8>().ok()?;
-    let exit = exit_in(fields.next()?.trim_ascii())?;
-    let peak = fields.next()?.trim_ascii().parse::<u8>().ok()?;
-    let back = fields.next()?.trim_ascii().parse::<u8>().ok()?;
-    let (base, per) = price_in(fields.next()?.trim_ascii())?;
-    let weight = fields.next()?.trim_ascii().parse::<u16>().ok()?;
-    let cells = fields.next()?;
-    let entry = WordEntry {
-        class,
-        need,
-        peak,
-        back,
-        exit,
-        base,
-        per,
-        weight,
-    };
-    Some(Row {
-        name,
-        stack,
-        entry,
-        cells,
-    })
+// Whether need, exit, peak, back, price and weight are those that a line goes on with.
+fn is_entry(rest: &mut &str, entry: &WordEntry) -> bool {
+    let is_need = is_number(field(rest), u32::from(entry.need));
+    let has_exit = is_exit(field(rest), entry.exit);
+    let is_peak = is_number(field(rest), u32::from(entry.peak));
+    let is_back = is_number(field(rest), u32::from(entry.back));
+    let has_price = is_price(field(rest), entry.base, entry.per);
+    let is_weight = is_number(field(rest), u32::from(entry.weight));
+    is_need & has_exit & is_peak & is_back & has_price & is_weight
 }
 
 // The cells on one side of a stack effect: a double is two.
@@ -237,25 +224,40 @@ fn shows(stack: &str, entry: &WordEntry) -> bool {
     let takes = cells_named(before);
     let change = cells_named(after).wrapping_sub(takes);
     let is_shown = match entry.exit {
-        Some((low, high)) => low != high || low == change || after.ends_with("? "),
+        Some((low, high)) => low != high || low == change || after.ends_with('?'),
         None => true,
     };
     entry.class == Class::Host || (i16::from(entry.need) == i16::from(takes) && is_shown)
 }
 
+// Whether the word table has what a line says of a word.
+fn agrees(alloc: Global, line: &str, word: Word) -> Result<bool, Fail> {
+    let mut rest = line;
+    let entry = entry(word);
+    let is_class = *field(&mut rest) == *class_name(entry.class);
+    let is_shown = shows(field(&mut rest), &entry);
+    let has_entry = is_entry(&mut rest, &entry);
+    let cells = cells_in(alloc, field(&mut rest), 16)?;
+    Ok(is_class && is_shown && has_entry && *plain_cells(word) == *cells.as_slice())
+}
+
+// Compares a line, and adds its word to the others.
+fn agree_row(alloc: Global, line: &str, words: &mut Vec<Word>) -> Result<(), Fail> {
+    let mut rest = line;
+    let _begin = field(&mut rest);
+    let word = word_of(field(&mut rest).trim_matches('`')).ok_or(line)?;
+    if words.as_slice().contains(&word) || !agrees(alloc, rest, word)? {
+        Err(line)?;
+    }
+    words.push(word)?;
+    Ok(())
+}
+
 #[test]
 fn agrees_with_the_tables(rt: HostRuntime) -> Result<(), Fail> {
-    let alloc = rt.alloc();
-    let mut words = Vec::new(alloc);
+    let mut words = Vec::new(rt.alloc());
     for line in TABLE.trim_ascii().lines() {
-        let row = row_in(line).ok_or(line)?;
-        let word = word_of(row.name).ok_or(line)?;
-        let cells = cells_in(alloc, row.cells, 16)?;
-        assert_eq!(rt; entry(word), row.entry, "{line}");
-        assert_eq!(rt; plain_cells(word), cells.as_slice(), "{line}");
-        assert!(rt; shows(row.stack, &row.entry), "{line}");
-        assert!(rt; !words.as_slice().contains(&word), "{line}");
-        words.push(word)?;
+        agree_row(rt.alloc(), line, &mut words)?;
     }
     assert_eq!(rt; words.len(), 138);
     Ok(())

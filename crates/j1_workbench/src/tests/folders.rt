@@ -1,7 +1,7 @@
-// The edge to the system, in the empty folder that a test runs in, and the ends of a word and of a console.
-use super::{Fails, NEVER, call};
+// Folders: that of the system, in the empty folder that a test runs in, and one in memory.
+use super::rows::holds;
 use crate::{Status, workbench};
-use outside_io::{FileFault, Folder, MemSink, MemSource, PutFault, StdFolder};
+use outside_io::{FileFault, Folder, MemFolder, MemSink, MemSource, PutFault, StdFolder};
 use std::alloc::{AllocError, Global};
 use std::test::Fail;
 
@@ -120,20 +120,20 @@ fn takes_names_of_255_bytes(rt: HostRuntime) -> Result<(), Fail> {
     Ok(())
 }
 
-// A console that has ended is asked once: a second question would be a fault.
 #[test]
-fn asks_an_ended_console_once(rt: HostRuntime) -> Result<(), Fail> {
-    let rows: [(&[u8], &[u32], &[u8]); 3] = [
-        (b"", &[2], b""),
-        (b"x", &[3], b"x"),
-        (b"xy", &[4], b"xy"),
-    ];
-    for (input, questions, printed) in rows {
-        let fails = Fails { questions, ..NEVER };
-        let text = b": MAIN KEY EMIT KEY EMIT KEY EMIT KEY EMIT ;";
-        let left = call(rt.alloc(), "run source.fs", text, input, fails)?;
-        assert_eq!(rt; left.status, Status::InputEnded);
-        assert_eq!(rt; left.out.held(), printed);
+fn keeps_files(rt: HostRuntime) -> Result<(), Fail> {
+    let alloc = rt.alloc();
+    let mut files = MemFolder::new(alloc, &[4])?;
+    files.put("a", b"one")?;
+    assert_eq!(rt; files.write(alloc, "b", b"two"), Ok(()));
+    assert_eq!(rt; files.write(alloc, "a", b"three"), Ok(()));
+    match files.read(alloc, "a", 4) {
+        Ok(bytes) => assert_eq!(rt; bytes.as_slice(), b"thre".as_slice()),
+        Err(fault) => assert!(rt; false, "{fault:?}"),
     }
+    assert_eq!(rt; files.write(alloc, "c", b"four"), Err(PutFault::Failed));
+    assert!(rt; holds(&files, "a", b"three"));
+    assert!(rt; holds(&files, "b", b"two"));
+    assert!(rt; !holds(&files, "d", b""));
     Ok(())
 }

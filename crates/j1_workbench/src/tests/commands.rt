@@ -1,0 +1,117 @@
+// Words of commands, the instructions of runs, faults, and the exit statuses.
+use super::notation::field;
+use super::rows::{Fails, NEVER, row_in, run_calls, run_row};
+use crate::{Status, status_number};
+use std::alloc::Global;
+use std::test::Fail;
+
+const WORDS: &str = r#"
+                                 | : MAIN ;                     |  |  | 1 bad words
+run                              | : MAIN ;                     |  |  | 1 bad words
+run -x                           | : MAIN ;                     |  |  | 1 bad words
+RUN source.fs                    | : MAIN ;                     |  |  | 1 bad words
+run source.fs x                  | : MAIN ;                     |  |  | 1 bad words
+run source.fs --steps            | : MAIN ;                     |  |  | 1 bad words
+run source.fs --steps 1000000001 | : MAIN ;                     |  |  | 1 bad words
+run source.fs --steps +1         | : MAIN ;                     |  |  | 1 bad words
+bound source.fs                  | : MAIN ;                     |  |  | 1 bad words
+net source.fs                    | : MAIN ;                     |  |  | 1 bad words
+eval x --steps 20000001          | : MAIN ;                     |  |  | 1 bad words
+make 65536 1                     | : MAIN ;                     |  |  | 1 bad words
+make 0 0                         | : MAIN ;                     |  |  | 1 bad words
+make 0 201                       | : MAIN ;                     |  |  | 1 bad words
+eval X                           | : MAIN ;                     |  |  | 15 not yet
+build a b                        | : MAIN ;                     |  |  | 15 not yet
+exec a --steps 0                 | : MAIN ;                     |  |  | 15 not yet
+forth                            | : MAIN ;                     |  |  | 15 not yet
+make 65535 200                   | : MAIN ;                     |  |  | 15 not yet
+run NONE                         | : MAIN ;                     |  |  | 2 NONE: missing
+run NONE --steps 5               | : MAIN ;                     |  |  | 2 NONE: missing
+run source.fs --steps 0          | : MAIN ;                     |  |  | 6 steps used
+run source.fs                    | : MAIN ;
+run source.fs --steps 1000000000 | : MAIN ;
+certify                          | : MAIN ;                     |  |  | 1 bad words
+certify -x                       | : MAIN ;                     |  |  | 1 bad words
+certify source.fs --steps 5      | : MAIN ;                     |  |  | 1 bad words
+certify NONE                     | : MAIN ;                     |  |  | 2 NONE: missing
+run _                            | : MAIN ;                     |  |  | 1 bad words
+run source.fs --steps 100        | : MAIN 0 0 DO LOOP 65 EMIT ; |  |  | 6 steps used
+"#;
+
+#[test]
+fn answers_words(rt: HostRuntime) -> Result<(), Fail> {
+    run_calls(rt.alloc(), WORDS)
+}
+
+// The call of MAIN, two cells, the store at the console (the fourth instruction), DROP, the return, and three to the halt.
+const STEPS: &str = r#"
+run source.fs --steps 0 | : MAIN 65 EMIT ; |  |   | 6 steps used
+run source.fs --steps 3 | : MAIN 65 EMIT ; |  |   | 6 steps used
+run source.fs --steps 4 | : MAIN 65 EMIT ; |  | A | 6 steps used
+run source.fs --steps 8 | : MAIN 65 EMIT ; |  | A | 6 steps used
+run source.fs --steps 9 | : MAIN 65 EMIT ; |  | A
+"#;
+
+#[test]
+fn counts_steps(rt: HostRuntime) -> Result<(), Fail> {
+    run_calls(rt.alloc(), STEPS)
+}
+
+// What fails outside, and the number of its call; then a row. A console that has ended is asked once: a second question would be a fault.
+const FAULTS: &str = r#"
+files 1     | run source.fs     | : MAIN 72 EMIT ;                             | x  |    | 10 read fault
+writes 1    | run source.fs     | : MAIN 72 EMIT ;                             | x  |    | 11 write fault
+questions 1 | run source.fs     | : MAIN 72 EMIT KEY EMIT ;                    | x  | H  | 10 read fault
+notes 2     | run source.fs     | X                                            | x  |    | 11 =j1:_
+notes 4     | run source.fs     | : MAIN X ;                                   | x  |    | 11 =j1:_source_token_3
+notes 2     | run source.fs     | : MAIN 72 EMIT ABORT ;                       | x  | H  | 11 =j1:_
+files 1     | certify source.fs | : MAIN 72 EMIT ;                             | x  |    | 10 read fault
+writes 1    | certify source.fs | : MAIN 72 EMIT ;                             | x  |    | 11 write fault
+questions 2 | run source.fs     | : MAIN KEY EMIT KEY EMIT KEY EMIT KEY EMIT ; |    |    | 7 input ended
+questions 3 | run source.fs     | : MAIN KEY EMIT KEY EMIT KEY EMIT KEY EMIT ; | x  | x  | 7 input ended
+questions 4 | run source.fs     | : MAIN KEY EMIT KEY EMIT KEY EMIT KEY EMIT ; | xy | xy | 7 input ended
+"#;
+
+// The calls that fail: those of an object that have these numbers.
+fn fails_of<'a>(object: &str, numbers: &'a [u32]) -> Fails<'a> {
+    match object {
+        "files" => Fails {
+            files: numbers,
+            ..NEVER
+        },
+        "questions" => Fails {
+            questions: numbers,
+            ..NEVER
+        },
+        "writes" => Fails {
+            writes: numbers,
+            ..NEVER
+        },
+        _ => Fails {
+            notes: numbers,
+            ..NEVER
+        },
+    }
+}
+
+fn run_fault(alloc: Global, line: &str) -> Result<(), Fail> {
+    let mut rest = line;
+    let (object, number) = field(&mut rest).split_once(' ').ok_or(line)?;
+    let numbers = [number.parse::<u32>().ok().ok_or(line)?];
+    let words = field(&mut rest);
+    run_row(alloc, &row_in(words, rest), fails_of(object, &numbers))
+}
+
+#[test]
+fn tells_faults(rt: HostRuntime) -> Result<(), Fail> {
+    for line in FAULTS.trim_matches('\n').lines() {
+        run_fault(rt.alloc(), line)?;
+    }
+    Ok(())
+}
+
+// No row runs out of memory. Each other status has its number in a row.
+#[test]
+fn numbers_want_of_memory(rt: HostRuntime) {
+    assert_eq!(rt; status_number(&Status::OutOfMemory), 12);
+}

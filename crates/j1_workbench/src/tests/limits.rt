@@ -1,0 +1,78 @@
+// Sources at the limits of the stacks, of code, of the output and of a text.
+use super::notation::field;
+use super::rows::{NEVER, Row, run_row};
+use std::alloc::{AllocError, Global};
+use std::test::Fail;
+
+// Pieces of a source, each with how often it stands; such pieces of what it prints; and its answer.
+const LIMITS: &str = r#"
+: MAIN_ 1, 7_ 33, DROP_ 33, ; 1
+: MAIN_ 1, 7_ 34, DROP_ 34, ; 1                     |        | 4 MAIN: not certified: Data
+: MAIN_ 1, 7_ 31, ; 1
+: MAIN_ 1, 7_ 32, ; 1                               |        | 4 MAIN: not certified: Data
+: MAIN_ 1, DEPTH_ 1, DROP_ 1, 7_ 32, DROP_ 32, ; 1
+: MAIN_ 1, DEPTH_ 1, DROP_ 1, 7_ 33, DROP_ 33, ; 1  |        | 4 MAIN: not certified: Data
+: MAIN_ 1, 7_ 33, DROP_ 33, ABORT_ 1, DEPTH_ 1, ; 1 |        | 4 MAIN: not certified: Data
+: MAIN_ 1, 7_ 32, 1+_ 1, DROP_ 32, ; 1
+: MAIN_ 1, 7_ 33, 1+_ 1, DROP_ 33, ; 1              |        | 4 MAIN: not certified: Data
+: MAIN_ 1, 7_ 31, CR_ 1, DROP_ 31, ; 1              | ~ 1
+: MAIN_ 1, 7_ 32, CR_ 1, DROP_ 32, ; 1              |        | 4 MAIN: not certified: Data
+: MAIN_ 1, 7_ 32, EMIT_ 32, ; 1                     | ^07 32
+: MAIN_ 1, 7_ 33, EMIT_ 33, ; 1                     |        | 4 MAIN: not certified: Data
+: MAIN_ 1, 0_ 1, 1+_ 1198, DROP_ 1, ; 1
+: MAIN_ 1, 0_ 1, 1+_ 1199, DROP_ 1, ; 1             |        | 3 source token 1203: CodeFull
+: MAIN_ 1, 0_ 1, 1-_ 2396, DROP_ 1, ; 1
+: MAIN_ 1, 0_ 1, 1-_ 2397, DROP_ 1, ; 1             |        | 3 source token 2402: CodeFull
+: MAIN_ 1, 0_ 1, 1-_ 2398, DROP_ 1, ; 1             |        | 3 source token 2402: CodeFull
+: MAIN_ 1, CHARS_ 3000, ; 1                         |        | 4 MAIN: not certified: Data
+: MAIN_ 1, 0_ 1, CHARS_ 3000, DROP_ 1, ; 1
+: MAIN_ 1, 65 EMIT_ 479, ; 1                        | A 479
+_ 65536                                             |        | 3 source token 1: NoMain
+_ 65537                                             |        | 13 source.fs: too large
+"#;
+
+fn append_times(text: &mut String, piece: &str, count: u32) -> Result<(), AllocError> {
+    for _ in 0..count {
+        text.push_str(piece)?;
+    }
+    Ok(())
+}
+
+// The text of pieces.
+fn repeated(alloc: Global, pieces: &str) -> Result<String, Fail> {
+    let mut text = String::new(alloc);
+    for piece in pieces.split(',') {
+        if let Some((piece, count)) = piece.trim_ascii().rsplit_once(' ') {
+            append_times(
+                &mut text,
+                piece,
+                count.parse::<u32>().ok().ok_or("no count")?,
+            )?;
+        }
+    }
+    Ok(text)
+}
+
+fn run_limit(alloc: Global, line: &str) -> Result<(), Fail> {
+    let mut rest = line;
+    let source = repeated(alloc, field(&mut rest))?;
+    let out = repeated(alloc, field(&mut rest))?;
+    let row = Row {
+        words: "run source.fs",
+        source: source.as_str(),
+        console: "",
+        out: out.as_str(),
+        answer: field(&mut rest),
+        files: "",
+        after: "",
+    };
+    run_row(alloc, &row, NEVER)
+}
+
+#[test]
+fn keeps_limits(rt: HostRuntime) -> Result<(), Fail> {
+    for line in LIMITS.trim_matches('\n').lines() {
+        run_limit(rt.alloc(), line)?;
+    }
+    Ok(())
+}

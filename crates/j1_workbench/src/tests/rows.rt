@@ -1,0 +1,235 @@
+// Calls of the workbench as lines of tables. A line has these fields, between bars, and those at its end may be left out:
+//
+//     words | text of source.fs | console | out | answer | other files before | files after
+//
+// Words are split by blanks; `_` is a word of no byte, and `;` ends a call, where several follow each other on the same folder, console,
+// out and notes. An answer is empty for Done without a note, and else the exit status and the line of the note behind `j1: `; or `=` and
+// all bytes of the notes. Files are `NAME = bytes`, parted by `&`; behind the calls, a name alone is of no file. Bytes are written as
+// `notation` says. A table for `run_rows` has the words of all its calls beside it, and its lines begin with the text.
+use super::notation::{bytes_in, field, number};
+use crate::{Status, status_number, workbench};
+use outside_io::{MemFolder, MemSink, MemSource};
+use std::alloc::{AllocError, Global};
+use std::test::Fail;
+
+/// The numbers of the calls that fail: of the folder, the console, the output and the notes.
+#[derive(Clone, Copy)]
+pub(super) struct Fails<'a> {
+    pub files: &'a [u32],
+    pub questions: &'a [u32],
+    pub writes: &'a [u32],
+    pub notes: &'a [u32],
+}
+
+pub(super) const NEVER: Fails<'static> = Fails {
+    files: &[],
+    questions: &[],
+    writes: &[],
+    notes: &[],
+};
+
+/// What a call meets outside.
+#[derive(Drop)]
+pub(super) struct Outside {
+    pub files: MemFolder,
+    pub console: MemSource,
+    pub out: MemSink,
+    pub notes: MemSink,
+}
+
+/// A call, and what it is to leave, as fields of a line.
+#[derive(Clone, Copy)]
+pub(super) struct Row<'a> {
+    pub words: &'a str,
+    pub source: &'a str,
+    pub console: &'a str,
+    pub out: &'a str,
+    pub answer: &'a str,
+    pub files: &'a str,
+    pub after: &'a str,
+}
+
+impl Outside {
+    pub(super) fn new(alloc: Global, input: &[u8], fails: Fails) -> Result<Outside, AllocError> {
+        Ok(Outside {
+            files: MemFolder::new(alloc, fails.files)?,
+            console: MemSource::new(alloc, input, fails.questions)?,
+            out: MemSink::new(alloc, 1000, fails.writes)?,
+            notes: MemSink::new(alloc, 1000, fails.notes)?,
+        })
+    }
+}
+
+/// One call with these words.
+pub(super) fn call(
+    alloc: Global,
+    outside: &mut Outside,
+    words: &str,
+) -> Result<Status, AllocError> {
+    let mut list = Vec::new(alloc);
+    for word in words.split_whitespace() {
+        list.push(String::from_str(alloc, word.trim_matches('_'))?)?;
+    }
+    Ok(workbench(
+        alloc,
+        list.as_slice(),
+        &mut outside.files,
+        &mut outside.console,
+        &mut outside.out,
+        &mut outside.notes,
+    ))
+}
+
+// Puts the files of a list into a folder.
+fn put_files(alloc: Global, files: &mut MemFolder, list: &str) -> Result<(), Fail> {
+    for file in list.split('&') {
+        if let Some((name, text)) = file.split_once('=') {
+            files.put(
+                name.trim_ascii(),
+                bytes_in(alloc, text.trim_ascii())?.as_slice(),
+            )?;
+        }
+    }
+    Ok(())
+}
+
+// Whether a folder has a file, as `NAME = bytes` or a name alone says.
+fn has_file(alloc: Global, files: &MemFolder, file: &str) -> Result<bool, Fail> {
+    let Some((name, text)) = file.split_once('=') else {
+        return Ok(files.file(file.trim_ascii()).is_none());
+    };
+    let bytes = bytes_in(alloc, text.trim_ascii())?;
+    Ok(holds(files, name.trim_ascii(), bytes.as_slice()))
+}
+
+/// Whether a folder has a file with these bytes.
+pub(super) fn holds(files: &MemFolder, name: &str, bytes: &[u8]) -> bool {
+    match files.file(name) {
+        Some(held) => *held == *bytes,
+        None => false,
+    }
+}
+
+fn has_files(alloc: Global, files: &MemFolder, list: &str) -> Result<bool, Fail> {
+    for file in list.split('&') {
+        if !has_file(alloc, files, file)? {
+            return Ok(false);
+        }
+    }
+    Ok(true)
+}
+
+// All bytes of the notes of an answer.
+fn notes_in(alloc: Global, note: &str) -> Result<Vec<u8>, Fail> {
+    if let Some(notes) = note.strip_prefix('=') {
+        return bytes_in(alloc, notes);
+    }
+    let mut notes = Vec::new(alloc);
+    if !note.is_empty() {
+        notes.extend_from_slice(b"j1: ")?;
+        notes.extend_from_slice(note.as_bytes())?;
+        notes.push(b'\n')?;
+    }
+    Ok(notes)
+}
+
+/// Whether this is the answer.
+pub(super) fn is_answer(
+    alloc: Global,
+    status: Status,
+    notes: &[u8],
+    answer: &str,
+) -> Result<bool, Fail> {
+    let (status_field, note) = answer.split_once(' ').unwrap_or(("0", ""));
+    let wanted = notes_in(alloc, note)?;
+    let is_status = number(status_field, 10) == Some(u16::from(status_number(&status)));
+    Ok(is_status && *notes == *wanted.as_slice())
+}
+
+fn leaves(alloc: Global, row: &Row, outside: &Outside, status: Status) -> Result<bool, Fail> {
+    let out = bytes_in(alloc, row.out)?;
+    let is_left = *outside.out.held() == *out.as_slice()
+        && is_answer(alloc, status, outside.notes.held(), row.answer)?
+        && has_files(alloc, &outside.files, row.after)?;
+    Ok(is_left)
+}
+
+// Does the calls of a row. The last status stands.
+fn call_all(alloc: Global, outside: &mut Outside, words: &str) -> Result<Status, AllocError> {
+    let mut status = Status::Done;
+    for words in words.split(';') {
+        status = call(alloc, outside, words)?;
+    }
+    Ok(status)
+}
+
+/// Does the calls of a row, of which some fail outside, and tells a row that leaves anything else.
+pub(super) fn run_row(alloc: Global, row: &Row, fails: Fails) -> Result<(), Fail> {
+    let mut met = Outside::new(alloc, bytes_in(alloc, row.console)?.as_slice(), fails)?;
+    met.files
+        .put("source.fs", bytes_in(alloc, row.source)?.as_slice())?;
+    put_files(alloc, &mut met.files, row.files)?;
+    let status = call_all(alloc, &mut met, row.words)?;
+    if leaves(alloc, row, &met, status)? {
+        Ok(())
+    } else {
+        tell(alloc, row, &met, status)
+    }
+}
+
+// Tells a row, and what it left.
+fn tell(alloc: Global, row: &Row, outside: &Outside, status: Status) -> Result<(), Fail> {
+    let out = outside.out.held();
+    let notes = outside.notes.held();
+    Err(format!(in alloc;
+        "{}: {}: {status:?}, {out:?}, {notes:?}",
+        row.words, row.source
+    )?)?;
+    Ok(())
+}
+
+/// The row of a line, but for its words.
+pub(super) fn row_in<'a>(words: &'a str, line: &'a str) -> Row<'a> {
+    let mut rest = line;
+    Row {
+        words,
+        source: field(&mut rest),
+        console: field(&mut rest),
+        out: field(&mut rest),
+        answer: field(&mut rest),
+        files: field(&mut rest),
+        after: field(&mut rest),
+    }
+}
+
+/// Does the calls of all lines of a table, with these words.
+pub(super) fn run_rows(alloc: Global, words: &str, table: &str) -> Result<(), Fail> {
+    for line in table.trim_matches('\n').lines() {
+        run_row(alloc, &row_in(words, line), NEVER)?;
+    }
+    Ok(())
+}
+
+/// Does the calls of all lines of a table.
+pub(super) fn run_calls(alloc: Global, table: &str) -> Result<(), Fail> {
+    for line in table.trim_matches('\n').lines() {
+        let mut rest = line;
+        let words = field(&mut rest);
+        run_row(alloc, &row_in(words, rest), NEVER)?;
+    }
+    Ok(())
+}
+
+/// Whether `run` on this text prints this and gives this answer.
+pub(super) fn runs_text(
+    alloc: Global,
+    text: &[u8],
+    input: &[u8],
+    printed: &[u8],
+    answer: &str,
+) -> Result<bool, Fail> {
+    let mut met = Outside::new(alloc, input, NEVER)?;
+    met.files.put("source.fs", text)?;
+    let status = call(alloc, &mut met, "run source.fs")?;
+    Ok(*met.out.held() == *printed && is_answer(alloc, status, met.notes.held(), answer)?)
+}
