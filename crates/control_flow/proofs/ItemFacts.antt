@@ -6,7 +6,7 @@ use Rattle.word_table.specs.declared.word.Word.TheVariants as word
 use Rattle.word_table.specs.Table.{entry_of}
 use Rattle.forth_program.specs.Tree.{Node, Nodes, Literal, Plain, Call, Do, QDo, Leave, Exit, Empty, Then}
 use Rattle.forth_program.specs.Form.{everywhere, inside, in_arms, leaves_fit, leave_fits, arms_fit}
-use Rattle.forth_reader.specs.Reading.{Reading, NoMore, Reads, Refuses, next_from}
+use Rattle.forth_reader.specs.Reading.{Reading, NoMore, Reads, Refuses, next_from, name_from}
 use Rattle.control_flow.specs.declared.nest.Open.{Open}
 use Rattle.control_flow.specs.declared.nest.Open.TheVariants as kind
 use Rattle.control_flow.specs.declared.nest.Opening.{Opening}
@@ -17,14 +17,14 @@ use Rattle.control_flow.specs.declared.sense.Sense.{Sense}
 use Rattle.control_flow.specs.declared.sense.Sense.TheVariants as sense
 use Rattle.control_flow.specs.Nest.{nest_ended, is_inside_do, open_of}
 use Rattle.control_flow.specs.Sense.{opening_word, ending_word}
-use Rattle.control_flow.specs.ParseResult.{ParserState, ParseResult, weighed, unfit}
-use Rattle.control_flow.specs.Items.{ReadToken, One, Many, Body, Cases, read_token_of, token_at, opened_at, ended_at, else_by, if_by, if_at, while_by, begin_by}
-use Rattle.control_flow.specs.Items.{begin_at, do_by, do_at, q_do_by, q_do_at, body_by, body_at, arms_by, arms_at, case_at, structure_at, alone, item_at}
-use Rattle.control_flow.specs.Items.{then_items, items_by, items_at}
+use Rattle.control_flow.specs.ParseResult.{ParserState, ParseResult, weighed_as, weighed, unfit}
+use Rattle.control_flow.specs.Items.{Named, ReadToken, One, Many, Body, Cases, first_byte, spelled_of, spelled_at, char_at, read_token_of, token_at, opened_at}
+use Rattle.control_flow.specs.Items.{ended_at, else_by, if_by, if_at, while_by, begin_by, begin_at, do_by, do_at, q_do_by, q_do_at, body_by, body_at, arms_by}
+use Rattle.control_flow.specs.Items.{arms_at, case_at, structure_at, alone, item_at, then_items, items_by, items_at}
 use Rattle.forth_program.specs.Weight.{else_weight, turn_weight, node_weight, weight as weight_of, arms_weight}
 use Rattle.forth_program.specs.SourceTokens.{node_tokens, tokens_of, arms_tokens}
 use Rattle.control_flow.specs.SourceLaw.{is_read}
-use Rattle.control_flow.proofs.Readings.{Passes, next_passes}
+use Rattle.control_flow.proofs.Readings.{Passes, name_passes, next_passes}
 use Rattle.control_flow.proofs.Senses.{AllBelow, IsSense, sense_is}
 use Rattle.control_flow.proofs.Moves.{Good, good_then, Moves, weighs, opens, ends, gone, becomes, holds, same_loop, own_loop}
 
@@ -35,6 +35,28 @@ pub record Bounded (N : ℕ) (at : ParserState) : Type 0 where
 
 pub bounded_on : (N : ℕ) (from at : ParserState) → at.entries ≡ from.entries → at.definitions ≡ from.definitions → Bounded N from → Bounded N at
 bounded_on N from at e d b = record { own = subst (λ n. n < N) (sym d) b.own; others = subst (AllBelow N) (sym e) b.others }
+
+-- a token was read, and nothing else changed
+pub record Passed (from at : ParserState) : Type 0 where
+  pub entries : at.entries ≡ from.entries
+  pub definitions : at.definitions ≡ from.definitions
+  pub nest : at.nest ≡ from.nest
+  pub weight : at.weight ≡ from.weight
+  pub count : from.count < at.count
+  pub left : length at.rest < length from.rest
+
+-- a token was read as a name, which begins with a byte
+pub record SpelledRead (from : ParserState) (named : Named) : Type 0 where
+  pub passed : Passed from named.at
+  pub byte : first_byte named.name < 65536
+
+spelled_on : (from : ParserState) (reading : Reading) → Passes from.count (length from.rest) reading → Good (SpelledRead from) (spelled_of from reading)
+spelled_on from (NoMore k) h = tt
+spelled_on from (Refuses k c) h = tt
+spelled_on from (Reads token k rest) h = record { passed = record { entries = refl; definitions = refl; nest = refl; weight = refl; count = h.0; left = h.1 }; byte = h.2 }
+
+pub spelled_read : (from : ParserState) → Good (SpelledRead from) (spelled_at from)
+spelled_read from = spelled_on from (name_from from.count from.rest) (name_passes from.count (length from.rest) from.count from.rest (omega arith) (omega arith))
 
 -- an item, whose first token ends at a place
 pub record ItemRead (from : ParserState) (one : One) : Type 0 where
@@ -81,8 +103,22 @@ token_read from = seen_read from (next_from from.count from.rest) (next_passes f
 
 alone_read : (w : ℕ) (node : Node) (from : ParserState) → node_weight node ≡ w → node_tokens node ≡ 1 → leave_fits (is_inside_do from.nest) node ≡ true →
     ((N : ℕ) → Bounded N from → (is_read N node && inside (is_read N) node) ≡ true) → Good (ItemRead from) (alone w node from)
-alone_read w node from e t l i = good_then (λ x. Moves w from x × (x.nest ≡ from.nest)) (ItemRead from) (weighed w from) _ (weighs w from)
+alone_read w node from e t l i = good_then (λ x. Moves w from x × (x.nest ≡ from.nest)) (ItemRead from) (weighed w from) _ (weighs from.count w from)
     (λ x m. record { entries = m.0.entries; definitions = m.0.definitions; nest = m.1; weight = omega (arith, e, m.0.weight); tokens = omega (arith, t, m.0.count); left = omega (arith, ap length m.0.rest); leaves = l; items = i })
+
+char_read : (from : ParserState) → Good (ItemRead from) (char_at from)
+char_read from = good_then (SpelledRead from) (ItemRead from) (spelled_at from) _ (spelled_read from)
+    (λ named s. good_then (λ x. Moves 2 named.at x × (x.nest ≡ named.at.nest)) (ItemRead from) (weighed_as from.count 2 named.at) _ (weighs from.count 2 named.at)
+    (λ x m. record {
+      entries = m.0.entries ∙ s.passed.entries;
+      definitions = m.0.definitions ∙ s.passed.definitions;
+      nest = m.1 ∙ s.passed.nest;
+      weight = omega (arith, m.0.weight, s.passed.weight);
+      tokens = omega (arith, m.0.count, s.passed.count);
+      left = omega (arith, ap length m.0.rest, s.passed.left);
+      leaves = refl;
+      items = λ N b. and_from _ _ (lt-ltb (first_byte named.name) 65536 s.byte) refl;
+    }))
 
 else_small : (nodes : Nodes) → else_weight nodes ≤ 1
 else_small Empty = omega arith
@@ -332,6 +368,7 @@ module _ (go : ParserState → ParseResult Many) (n : ℕ) (goes : (at : ParserS
   item_read m from (sense.Ends e) q h i = tt
   item_read m from sense.Leaves q h i = leave_on from (is_inside_do from.nest) refl
   item_read m from sense.Exits q h i = alone_read 1 Exit from refl refl refl (λ N b. refl)
+  item_read m from sense.Spells q h i = char_read from
   item_read m from sense.OutOfRange q h i = tt
   item_read m from sense.Unknown q h i = tt
   item_read m from sense.NotYet q h i = tt
@@ -374,6 +411,7 @@ module _ (go : ParserState → ParseResult Many) (n : ℕ) (goes : (at : ParserS
     by_read (sense.Opens o) q = then_read _ (item_read n seen.at (sense.Opens o) q h h)
     by_read sense.Leaves q = then_read _ (item_read n seen.at sense.Leaves q h h)
     by_read sense.Exits q = then_read _ (item_read n seen.at sense.Exits q h h)
+    by_read sense.Spells q = then_read _ (item_read n seen.at sense.Spells q h h)
     by_read sense.OutOfRange q = tt
     by_read sense.Unknown q = tt
     by_read sense.NotYet q = tt

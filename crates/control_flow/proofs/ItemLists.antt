@@ -7,7 +7,7 @@ use Rattle.control_flow.specs.declared.refusal.SourceError.{SourceError}
 use Rattle.control_flow.specs.declared.refusal.SourceError.TheVariants as error
 use Rattle.control_flow.specs.declared.nest.Ending.{Ending}
 use Rattle.control_flow.specs.declared.sense.Sense.{Sense}
-use Rattle.control_flow.specs.declared.sense.Sense.TheVariants.{Number, Plain, Calls, Recurses, Opens, Ends, Leaves, Exits, OutOfRange, Unknown, NotYet}
+use Rattle.control_flow.specs.declared.sense.Sense.TheVariants.{Number, Plain, Calls, Recurses, Opens, Ends, Leaves, Exits, Spells, OutOfRange, Unknown, NotYet}
 use Rattle.control_flow.specs.ParseResult.{ParserState, ParseResult, Fine, Refused, NotBuilt, Endless, ◌>>=◌}
 use Rattle.control_flow.specs.Items.{ReadToken, Many, token_at, ended_at, item_at, then_items, items_by, items_at}
 use Rattle.control_flow.specs.Answers.{FailsAs}
@@ -52,6 +52,7 @@ items_by_other go m at Recurses h = refl
 items_by_other go m at (Opens o) h = refl
 items_by_other go m at Leaves h = refl
 items_by_other go m at Exits h = refl
+items_by_other go m at Spells h = refl
 items_by_other go m at OutOfRange h = refl
 items_by_other go m at Unknown h = refl
 items_by_other go m at NotYet h = refl

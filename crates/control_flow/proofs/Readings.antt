@@ -1,13 +1,15 @@
 -- A token that is read is counted, and takes a byte at least.
-use Rattle.std.proofs.Common.{ℕ, suc, ◌+◌, ◌<◌, ◌≤◌, nat_le, ◌==◌, ◌&&◌, Bool, true, false, List, [], ◌∷◌, length, arith}
+use Rattle.std.proofs.Common.{◌≡◌, ℕ, suc, ◌+◌, ◌<◌, ◌≤◌, nat_le, ◌==◌, ◌&&◌, Bool, true, false, List, [], ◌∷◌, length, refl, arith, leb-true}
+use Rattle.std.proofs.lemmas.Bool.{and_parts}
 use Rattle.forth_reader.specs.declared.refusal.ReadCause.TheVariants as read
 use Rattle.forth_reader.specs.Bytes.{is_graphic, is_blank, is_source_byte, graphic_front, behind_graphic}
+use Rattle.control_flow.specs.Items.{first_byte}
 use Rattle.forth_reader.specs.Reading.{Reading, NoMore, Reads, Refuses, ends_token, may_follow_token, whole_token, name_from, next_from, parenthesis_from, line_from}
 
--- behind so many tokens: where one was read, its number is greater and fewer than so many bytes are left behind it
+-- behind so many tokens: where one was read, its number is greater, fewer than so many bytes are left behind it, and it begins with a byte
 abbrev pub Passes : ℕ → ℕ → Reading → Type 0
 Passes before bound (NoMore k) = before ≤ k
-Passes before bound (Reads token k rest) = (before < k) × (length rest < bound)
+Passes before bound (Reads token k rest) = (before < k) × (length rest < bound) × (first_byte token < 65536)
 Passes before bound (Refuses k c) = Unit {0}
 
 front_on : (g : Bool) (b : ℕ) (bs rest : List ℕ) → length rest ≤ length bs → length (elim g as (λ g. List ℕ) [ true ↦ rest | false ↦ b ∷ bs ]) ≤ suc (length bs)
@@ -25,25 +27,32 @@ module _ (before bound : ℕ) where
   whole_on k token rest true false h = tt
   whole_on k token rest false short h = tt
 
-  whole_passes : (k b : ℕ) (bs : List ℕ) → before ≤ k → suc (length bs) ≤ bound → Passes before bound (whole_token (k + 1) (b ∷ graphic_front bs) (behind_graphic bs))
-  whole_passes k b bs n h =
-      whole_on (k + 1) (b ∷ graphic_front bs) (behind_graphic bs) (may_follow_token (behind_graphic bs)) (nat_le (length (b ∷ graphic_front bs)) 31) (omega arith, omega (arith, behind_short bs))
+  graphic_small : (byte : ℕ) → is_graphic byte ≡ true → byte < 65536
+  graphic_small byte e = omega (arith, leb-true byte 126 (and_parts (nat_le 33 byte) (nat_le byte 126) e).1)
+
+  whole_passes : (k b : ℕ) (bs : List ℕ) → before ≤ k → suc (length bs) ≤ bound → is_graphic b ≡ true → Passes before bound (whole_token (k + 1) (b ∷ graphic_front bs) (behind_graphic bs))
+  whole_passes k b bs n h g =
+      whole_on (k + 1) (b ∷ graphic_front bs) (behind_graphic bs) (may_follow_token (behind_graphic bs)) (nat_le (length (b ∷ graphic_front bs)) 31) (omega arith, omega (arith, behind_short bs), graphic_small b g)
 
   one_of : (test : Bool) (r s : Reading) → Passes before bound r → Passes before bound s → Passes before bound (elim test [ true ↦ r | false ↦ s ])
   one_of true r s h k = h
   one_of false r s h k = k
 
+  where_graphic : (test : Bool) (r s : Reading) → (test ≡ true → Passes before bound r) → Passes before bound s → Passes before bound (elim test [ true ↦ r | false ↦ s ])
+  where_graphic true r s h k = h refl
+  where_graphic false r s h k = k
+
   pub name_passes : (k : ℕ) (bs : List ℕ) → before ≤ k → length bs ≤ bound → Passes before bound (name_from k bs)
   name_passes k [] n h = n
-  name_passes k (b ∷ bs) n h = one_of (is_graphic b) _ _ (whole_passes k b bs n h) (one_of (is_blank b) _ _ (name_passes k bs n (omega arith)) tt)
+  name_passes k (b ∷ bs) n h = where_graphic (is_graphic b) _ _ (λ g. whole_passes k b bs n h g) (one_of (is_blank b) _ _ (name_passes k bs n (omega arith)) tt)
 
   mutual
     pub next_passes : (k : ℕ) (bs : List ℕ) → before ≤ k → length bs ≤ bound → Passes before bound (next_from k bs)
     next_passes k [] n h = n
     next_passes k (b ∷ bs) n h =
-        one_of (is_graphic b) _ _
-        (one_of (ends_token bs && b == 40) _ _ (parenthesis_passes (k + 1) bs (omega arith) (omega arith))
-        (one_of (ends_token bs && b == 92) _ _ (line_passes (k + 1) bs (omega arith) (omega arith)) (whole_passes k b bs n h)))
+        where_graphic (is_graphic b) _ _
+        (λ g. one_of (ends_token bs && b == 40) _ _ (parenthesis_passes (k + 1) bs (omega arith) (omega arith))
+        (one_of (ends_token bs && b == 92) _ _ (line_passes (k + 1) bs (omega arith) (omega arith)) (whole_passes k b bs n h g)))
         (one_of (is_blank b) _ _ (next_passes k bs n (omega arith)) tt)
 
     parenthesis_passes : (k : ℕ) (bs : List ℕ) → before ≤ k → length bs ≤ bound → Passes before bound (parenthesis_from k bs)

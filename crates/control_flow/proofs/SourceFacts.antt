@@ -10,24 +10,23 @@ use Rattle.word_table.specs.Names.{word_named}
 use Rattle.forth_program.specs.Tree.{Node, Nodes, Arms, Literal, Plain, Call, Child, If, Until, While, Again, Do, QDo, Case, Empty, Then, NoArm, Arm}
 use Rattle.forth_program.specs.Form.{IsProgram, everywhere, inside, in_arms, has_id_below, calls_go_back, may_stand, leaves_fit}
 use Rattle.forth_program.specs.Program.{SourceProgram}
-use Rattle.forth_reader.specs.Reading.{Reading, NoMore, Reads, Refuses, name_from, next_from}
+use Rattle.forth_reader.specs.Reading.{Reading, NoMore, Reads, Refuses, next_from}
 use Rattle.dictionary_core.specs.Pairs.{pair, newest_value}
 use Rattle.control_flow.specs.declared.refusal.SourceCause.TheVariants as cause
 use Rattle.control_flow.specs.declared.nest.Ending.{Ending}
 use Rattle.control_flow.specs.declared.nest.Ending.TheVariants as ending
 use Rattle.control_flow.specs.Nest.{is_inside_do}
 use Rattle.control_flow.specs.ParseResult.{ParserState, ParseResult, Fine, Refused, NotBuilt, Endless, Each}
-use Rattle.control_flow.specs.Items.{items_at}
-use Rattle.control_flow.specs.SourceText.{Named, Source, OutsideToken, is_reserved_name, is_colon_name, fixed_space, roomed, named_of, name_at, defined_by}
-use Rattle.control_flow.specs.SourceText.{definition_at, outside_of, outside_at, program_with, program_of_source, source_by, source_at, source_start}
-use Rattle.control_flow.specs.SourceText.{program_of_text}
+use Rattle.control_flow.specs.Items.{Named, spelled_at, items_at}
+use Rattle.control_flow.specs.SourceText.{Source, OutsideToken, is_reserved_name, is_colon_name, fixed_space, name_at, defined_by, definition_at, outside_of}
+use Rattle.control_flow.specs.SourceText.{outside_at, program_with, program_of_source, source_by, source_at, source_start, program_of_text}
 use Rattle.forth_program.specs.Weight.{weight as weight_of, bodies_weight}
 use Rattle.control_flow.specs.SourceLaw.{is_plain, is_read, IsSource, EachIsJudged, EachProgramIsSource}
 use Rattle.forth_program.specs.SourceTokens.{tokens_of, all_tokens}
-use Rattle.control_flow.proofs.Readings.{Passes, name_passes, next_passes}
+use Rattle.control_flow.proofs.Readings.{Passes, next_passes}
 use Rattle.control_flow.proofs.Senses.{AllBelow, newest_below, below_more, below_wider}
 use Rattle.control_flow.proofs.Moves.{Good, good_then, good_is, outermost}
-use Rattle.control_flow.proofs.ItemFacts.{ItemsRead, items_read}
+use Rattle.control_flow.proofs.ItemFacts.{Passed, SpelledRead, spelled_read, ItemsRead, items_read}
 
 -- ---- a wider test
 
@@ -135,33 +134,20 @@ pub record SourceRead (source : Source) : Type 0 where
   pub light : source.at.weight ≤ 2400
   pub tokens : all_tokens source.bodies ≤ source.at.count
 
--- a token was read, and nothing else changed
-record Passed (from at : ParserState) : Type 0 where
-  entries : at.entries ≡ from.entries
-  definitions : at.definitions ≡ from.definitions
-  nest : at.nest ≡ from.nest
-  weight : at.weight ≡ from.weight
-  count : from.count < at.count
-  left : length at.rest < length from.rest
-
 record NamedRead (from : ParserState) (named : Named) : Type 0 where
   passed : Passed from named.at
   room : length named.at.entries < 512
 
-room_on : (t : Bool) (from at : ParserState) (name : List ℕ) → nat_lt (length at.entries) 512 ≡ t → Passed from at →
-    Good (NamedRead from) (elim t [ true ↦ Fine (record { name = name; at = at }) | false ↦ Refused at.count cause.TooManyWords ])
-room_on true from at name e p = record { passed = p; room = ltb-true (length at.entries) 512 e }
-room_on false from at name e p = tt
+name_on : (reserved fits : Bool) (from : ParserState) (named : Named) → nat_lt (length named.at.entries) 512 ≡ fits → Passed from named.at →
+    Good (NamedRead from) (elim reserved [ true ↦ Refused named.at.count cause.NeedsName | false ↦ elim fits [ true ↦ Fine named | false ↦ Refused named.at.count cause.TooManyWords ] ])
+name_on true fits from named e p = tt
+name_on false true from named e p = record { passed = p; room = ltb-true (length named.at.entries) 512 e }
+name_on false false from named e p = tt
 
-name_on : (t : Bool) (from at : ParserState) (name : List ℕ) (number : ℕ) → Passed from at → Good (NamedRead from) (elim t [ true ↦ Refused number cause.NeedsName | false ↦ roomed name at ])
-name_on true from at name number p = tt
-name_on false from at name number p = room_on (nat_lt (length at.entries) 512) from at name refl p
-
-named_read : (from : ParserState) (reading : Reading) → Passes from.count (length from.rest) reading → Good (NamedRead from) (named_of from reading)
-named_read from (NoMore k) h = tt
-named_read from (Refuses k c) h = tt
-named_read from (Reads token k rest) h =
-    name_on (is_reserved_name (word_named token)) from (record from { rest = rest; count = k }) token k (record { entries = refl; definitions = refl; nest = refl; weight = refl; count = h.0; left = h.1 })
+named_read : (from : ParserState) → Good (NamedRead from) (name_at from)
+named_read from =
+    good_then (SpelledRead from) (NamedRead from) (spelled_at from) _ (spelled_read from)
+    (λ named s. name_on (is_reserved_name (word_named named.name)) (nat_lt (length named.at.entries) 512) from named refl s.passed)
 
 module _ (source : Source) (so_far : SourceRead source) (at : ParserState) (p : Passed source.at at) where
   abbrev DefinitionRead : Source → Type 0
@@ -213,7 +199,7 @@ module _ (source : Source) (so_far : SourceRead source) (at : ParserState) (p : 
 
   definition_read : (n : ℕ) → length at.rest < n → Good DefinitionRead (definition_at n source at)
   definition_read n h =
-      good_then (NamedRead at) DefinitionRead (name_at at) _ (named_read at (name_from at.count at.rest) (name_passes at.count (length at.rest) at.count at.rest (omega arith) (omega arith)))
+      good_then (NamedRead at) DefinitionRead (name_at at) _ (named_read at)
       (λ named q. good_then (ItemsRead named.at) DefinitionRead (items_at n named.at) _ (items_read n named.at (omega (arith, q.passed.left, h)))
       (λ many r. defined_on named q many.nodes many.ending many.at r))
 

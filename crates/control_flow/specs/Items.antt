@@ -1,9 +1,9 @@
 -- The items of a definition, up to the word that ends them (the control-flow stack of ANS Forth).
-use Rattle.std.specs.Prelude.{ℕ, zero, suc, ◌+◌, true, false, List, Result, Ok, Err}
+use Rattle.std.specs.Prelude.{ℕ, zero, suc, ◌+◌, true, false, List, [], ◌∷◌, Result, Ok, Err}
 use Rattle.word_table.specs.declared.word.Word.TheVariants as word
 use Rattle.word_table.specs.Table.{entry_of}
 use Rattle.forth_program.specs.Tree.{Node, Nodes, Arms, Literal, Plain, Call, If, Until, While, Again, Do, QDo, Case, Leave, Exit, Empty, Then, NoArm, Arm}
-use Rattle.forth_reader.specs.Reading.{Reading, NoMore, Reads, Refuses, next_from}
+use Rattle.forth_reader.specs.Reading.{Reading, NoMore, Reads, Refuses, next_from, name_from}
 use Rattle.control_flow.specs.declared.refusal.SourceCause.{SourceCause}
 use Rattle.control_flow.specs.declared.refusal.SourceCause.TheVariants as cause
 use Rattle.control_flow.specs.declared.nest.Open.{Open}
@@ -15,7 +15,7 @@ use Rattle.control_flow.specs.declared.sense.Sense.{Sense}
 use Rattle.control_flow.specs.declared.sense.Sense.TheVariants as sense
 use Rattle.control_flow.specs.Nest.{open_of, with_open, nest_ended, is_inside_do}
 use Rattle.control_flow.specs.Sense.{opening_word, ending_word, sense_in}
-use Rattle.control_flow.specs.ParseResult.{ParserState, ParseResult, Fine, Refused, NotBuilt, Endless, ◌>>=◌, source_cause, weighed, unfit}
+use Rattle.control_flow.specs.ParseResult.{ParserState, ParseResult, Fine, Refused, NotBuilt, Endless, ◌>>=◌, source_cause, weighed_as, weighed, unfit}
 
 -- a token that was read, by what it stands for, and where it ends
 pub record ReadToken : Type 0 where
@@ -52,6 +52,20 @@ read_token_of at (Reads token number rest) = Fine (record { sense = sense_in at.
 -- the next token of a definition
 abbrev pub token_at : ParserState → ParseResult ReadToken
 token_at at = read_token_of at (next_from at.count at.rest)
+
+-- a token that was read as a name, and where it ends
+pub record Named : Type 0 where
+  pub name : List ℕ
+  pub at : ParserState
+
+abbrev pub spelled_of : ParserState → Reading → ParseResult Named
+spelled_of at (NoMore tokens) = Refused (tokens + 1) cause.NeedsName
+spelled_of at (Refuses number c) = Refused number (source_cause c)
+spelled_of at (Reads token number rest) = Fine (record { name = token; at = record at { rest = rest; count = number } })
+
+-- the next token, read as a name
+abbrev pub spelled_at : ParserState → ParseResult Named
+spelled_at at = spelled_of at (name_from at.count at.rest)
 
 -- what the nest says of a word
 abbrev pub nested : ParserState → Result (List Open) SourceCause → ParseResult ParserState
@@ -143,9 +157,22 @@ structure_at go m opening.Case at = case_at go m at
 
 -- ---- items
 
--- an item that is one token, with its weight
+-- an item that ends here, with the weight of the token with a number
+abbrev pub alone_as : ℕ → ℕ → Node → ParserState → ParseResult One
+alone_as number weight node at = weighed_as number weight at >>= λ after. Fine (record { node = node; at = after })
+
+-- the same for the last token
 abbrev pub alone : ℕ → Node → ParserState → ParseResult One
-alone weight node at = weighed weight at >>= λ after. Fine (record { node = node; at = after })
+alone weight node at = alone_as at.count weight node at
+
+-- the byte with which a name begins
+abbrev pub first_byte : List ℕ → ℕ
+first_byte [] = 0
+first_byte (byte ∷ bytes) = byte
+
+-- [CHAR] reads a name, and is its first byte
+abbrev pub char_at : ParserState → ParseResult One
+char_at at = spelled_at at >>= λ named. alone_as at.count (entry_of word.BracketChar).weight (Literal (first_byte named.name)) named.at
 
 -- the item that begins with a token of this sense, which ends at the place
 abbrev pub item_at : (ParserState → ParseResult Many) → ℕ → ParserState → Sense → ParseResult One
@@ -157,6 +184,7 @@ item_at go m at (sense.Opens o) = opened_at o at >>= structure_at go m o
 item_at go m at (sense.Ends e) = unfit at
 item_at go m at sense.Leaves = elim (is_inside_do at.nest) [ true ↦ alone (entry_of word.Leave).weight Leave at | false ↦ unfit at ]
 item_at go m at sense.Exits = alone (entry_of word.Exit).weight Exit at
+item_at go m at sense.Spells = char_at at
 item_at go m at sense.OutOfRange = Refused at.count cause.NumberRange
 item_at go m at sense.Unknown = Refused at.count cause.UnknownWord
 item_at go m at sense.NotYet = NotBuilt
@@ -174,6 +202,7 @@ items_by go m at sense.Recurses = then_items go (item_at go m at sense.Recurses)
 items_by go m at (sense.Opens o) = then_items go (item_at go m at (sense.Opens o))
 items_by go m at sense.Leaves = then_items go (item_at go m at sense.Leaves)
 items_by go m at sense.Exits = then_items go (item_at go m at sense.Exits)
+items_by go m at sense.Spells = then_items go (item_at go m at sense.Spells)
 items_by go m at sense.OutOfRange = then_items go (item_at go m at sense.OutOfRange)
 items_by go m at sense.Unknown = then_items go (item_at go m at sense.Unknown)
 items_by go m at sense.NotYet = then_items go (item_at go m at sense.NotYet)

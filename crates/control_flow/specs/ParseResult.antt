@@ -42,12 +42,16 @@ source_cause read.NameTooLong = cause.NameTooLong
 source_cause read.OpenComment = cause.OpenComment
 source_cause read.OpenString = cause.OpenString
 
--- the place with a weight more; the sum of all weights is at most 2,400
-abbrev pub weighed : ℕ → ParserState → ParseResult ParserState
-weighed weight at = elim (nat_le (at.weight + weight) 2400) [
+-- the place with the weight more of the token with a number; the sum of all weights is at most 2,400
+abbrev pub weighed_as : ℕ → ℕ → ParserState → ParseResult ParserState
+weighed_as number weight at = elim (nat_le (at.weight + weight) 2400) [
   | true ↦ Fine (record at { weight = at.weight + weight })
-  | false ↦ Refused at.count cause.CodeFull
+  | false ↦ Refused number cause.CodeFull
 ]
+
+-- the same for the last token
+abbrev pub weighed : ℕ → ParserState → ParseResult ParserState
+weighed weight at = weighed_as at.count weight at
 
 -- a word does not fit
 abbrev pub unfit : {A : Type 0} → ParserState → ParseResult A

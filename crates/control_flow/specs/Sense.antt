@@ -15,7 +15,7 @@ use Rattle.control_flow.specs.declared.nest.Opening.TheVariants as opening
 use Rattle.control_flow.specs.declared.nest.Ending.{Ending}
 use Rattle.control_flow.specs.declared.nest.Ending.TheVariants as ending
 use Rattle.control_flow.specs.declared.sense.Sense.{Sense}
-use Rattle.control_flow.specs.declared.sense.Sense.TheVariants.{Number, Plain, Calls, Recurses, Opens, Ends, Leaves, Exits, OutOfRange, Unknown, NotYet}
+use Rattle.control_flow.specs.declared.sense.Sense.TheVariants.{Number, Plain, Calls, Recurses, Opens, Ends, Leaves, Exits, Spells, OutOfRange, Unknown, NotYet}
 
 abbrev pub opening_word : Opening → Word
 opening_word opening.If = word.If
@@ -43,7 +43,7 @@ number_sense (number.Value value) = Number value
 number_sense number.Range = OutOfRange
 number_sense number.NotNumber = Unknown
 
--- of the words of class structure the string words and those of the brackets are not built
+-- of the words of class structure the string words and those of the other brackets are not built
 abbrev pub structure_sense : Word → Sense
 structure_sense word.ToR = Plain word.ToR
 structure_sense word.RFrom = Plain word.RFrom
@@ -71,6 +71,7 @@ structure_sense word.Semicolon = Ends ending.Semicolon
 structure_sense word.Leave = Leaves
 structure_sense word.Exit = Exits
 structure_sense word.Recurse = Recurses
+structure_sense word.BracketChar = Spells
 structure_sense w = NotYet
 
 -- EXECUTE is not built

@@ -5,18 +5,13 @@ use Rattle.word_table.specs.declared.word.Word.TheVariants.{Colon, Semicolon, Pa
 use Rattle.word_table.specs.Names.{word_named}
 use Rattle.forth_program.specs.Tree.{Nodes}
 use Rattle.forth_program.specs.Program.{SourceProgram}
-use Rattle.forth_reader.specs.Reading.{Reading, NoMore, Reads, Refuses, next_from, name_from}
+use Rattle.forth_reader.specs.Reading.{Reading, NoMore, Reads, Refuses, next_from}
 use Rattle.dictionary_core.specs.Pairs.{pair, newest_value}
 use Rattle.control_flow.specs.declared.refusal.SourceCause.TheVariants as cause
 use Rattle.control_flow.specs.declared.nest.Ending.{Ending}
 use Rattle.control_flow.specs.declared.nest.Ending.TheVariants as ending
 use Rattle.control_flow.specs.ParseResult.{ParserState, ParseResult, Fine, Refused, NotBuilt, Endless, ◌>>=◌, source_cause, unfit}
-use Rattle.control_flow.specs.Items.{items_at}
-
--- a name that was read, and where it ends
-pub record Named : Type 0 where
-  pub name : List ℕ
-  pub at : ParserState
+use Rattle.control_flow.specs.Items.{Named, spelled_at, items_at}
 
 -- the words whose names cannot be defined
 abbrev pub is_reserved : Word → Bool
@@ -33,21 +28,16 @@ abbrev pub is_reserved_name : Option Word → Bool
 is_reserved_name (Some word) = is_reserved word
 is_reserved_name None = false
 
--- a name with this number that can be defined is the 513th, or not
-abbrev pub roomed : List ℕ → ParserState → ParseResult Named
-roomed name at = elim (nat_lt (length at.entries) 512) [ true ↦ Fine (record { name = name; at = at }) | false ↦ Refused at.count cause.TooManyWords ]
-
-abbrev pub named_of : ParserState → Reading → ParseResult Named
-named_of at (NoMore tokens) = Refused (tokens + 1) cause.NeedsName
-named_of at (Refuses number c) = Refused number (source_cause c)
-named_of at (Reads token number rest) = elim (is_reserved_name (word_named token)) [
-  | true ↦ Refused number cause.NeedsName
-  | false ↦ roomed token (record at { rest = rest; count = number })
+-- a name can be defined, and is not the 513th
+abbrev pub definable : Named → ParseResult Named
+definable named = elim (is_reserved_name (word_named named.name)) [
+  | true ↦ Refused named.at.count cause.NeedsName
+  | false ↦ elim (nat_lt (length named.at.entries) 512) [ true ↦ Fine named | false ↦ Refused named.at.count cause.TooManyWords ]
 ]
 
 -- the name of a definition, behind its `:`
 abbrev pub name_at : ParserState → ParseResult Named
-name_at at = named_of at (name_from at.count at.rest)
+name_at at = spelled_at at >>= definable
 
 -- a source so far: where it is read on, and the names and bodies of its definitions, in their order
 pub record Source : Type 0 where

@@ -1,7 +1,7 @@
 //! Reads the program of a Forth source text: its definitions, or why it is refused.
 //!
-//! Today a text is definitions `: NAME items ;` of numbers, inline and library words, words on return entries, calls and structures, with
-//! comments anywhere. In `specs/`, `SourceText` computes the program of a text, its first refusal, or that it is not built yet.
+//! Today a text is definitions `: NAME items ;` of numbers, `[CHAR]`, inline and library words, words on return entries, calls and structures,
+//! with comments anywhere. In `specs/`, `SourceText` computes the program of a text, its first refusal, or that it is not built yet.
 #![tactic(auto)]
 
 mod laws;

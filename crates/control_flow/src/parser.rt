@@ -3,9 +3,9 @@ ghost use Rattle.std.specs.Prelude.{◌≡◌, ℕ, ◌+◌, ◌<◌, ◌≤◌,
 ghost use Rattle.forth_program.specs.ItemTrees.{node_of, tree_of};
 ghost use Rattle.forth_reader.specs.Name.{IsName};
 ghost use Rattle.dictionary_core.specs.Pairs.{newest_value};
-ghost use Rattle.control_flow.specs.ParseResult.{weighed};
+ghost use Rattle.control_flow.specs.ParseResult.{weighed_as, weighed};
 ghost use Rattle.control_flow.specs.Sense.{sense_in};
-ghost use Rattle.control_flow.specs.Items.{token_at, opened_at, ended_at, if_at, begin_at, do_at, q_do_at, body_at, case_at, structure_at, alone, item_at, items_at};
+ghost use Rattle.control_flow.specs.Items.{first_byte, spelled_at, char_at, alone_as, token_at, opened_at, ended_at, if_at, begin_at, do_at, q_do_at, body_at, case_at, structure_at, alone, item_at, items_at};
 ghost use Rattle.control_flow.specs.SourceText.{name_at, outside_at};
 ghost use Rattle.control_flow.specs.Answers.{parser_state, IsReadyParser, AnswersAs};
 
@@ -38,6 +38,14 @@ pub(crate) struct Parser<'a> {
     pub(crate) definitions: u16,
 }
 
+/// The byte with which a name begins.
+fn first_byte(name: &str) -> u16
+    requires { IsName name.now }
+    ensures { result ≡ first_byte name.now }
+{
+    u16::from(name.as_bytes()[0])
+}
+
 /// Items, and the word that ends them.
 #[derive(Drop)]
 pub(crate) struct Ended {
@@ -46,18 +54,29 @@ pub(crate) struct Ended {
 }
 
 impl<'a> Parser<'a> {
-    /// Adds a weight. CodeFull comes where the sum then passes the limit.
+    /// Adds the weight of a token. CodeFull comes where the sum then passes the limit.
+    fn weigh_as(&mut self, number: u32, weight: u16) -> Result<(), SourceError>
+        requires { IsReadyParser self.old }
+        ensures gives { AnswersAs (λ _. parser_state self.new) result (weighed_as number weight (parser_state self.old)) }
+        ensures same { length self.new.reader.rest ≡ length self.old.reader.rest }
+        ensures ready { OnOk result (IsReadyParser self.new) }
+    {
+        if self.weight + u32::from(weight) > MOST_WEIGHT {
+            return refused(number, SourceCause::CodeFull);
+        }
+        self.weight += u32::from(weight);
+        Ok(())
+    }
+
+    /// Adds the weight of the last token.
     fn weigh(&mut self, weight: u16) -> Result<(), SourceError>
         requires { IsReadyParser self.old }
         ensures gives { AnswersAs (λ _. parser_state self.new) result (weighed weight (parser_state self.old)) }
         ensures same { length self.new.reader.rest ≡ length self.old.reader.rest }
         ensures ready { OnOk result (IsReadyParser self.new) }
     {
-        if self.weight + u32::from(weight) > MOST_WEIGHT {
-            return refused(self.reader.count(), SourceCause::CodeFull);
-        }
-        self.weight += u32::from(weight);
-        Ok(())
+        let number = self.reader.count();
+        self.weigh_as(number, weight)
     }
 
     /// A structure opens.
@@ -259,6 +278,19 @@ impl<'a> Parser<'a> {
         }
     }
 
+    /// An item that ends here, with the weight of a token.
+    fn alone_as(&mut self, number: u32, weight: u16, item: Item) -> Result<Item, SourceError>
+        requires { IsReadyParser self.old }
+        ensures gives { AnswersAs (λ item. record { node = node_of item; at = parser_state self.new }) result (alone_as number weight (node_of item) (parser_state self.old)) }
+        ensures same { length self.new.reader.rest ≡ length self.old.reader.rest }
+        ensures ready { OnOk result (IsReadyParser self.new) }
+    {
+        match self.weigh_as(number, weight) {
+            Ok(()) => Ok(item),
+            Err(error) => Err(error),
+        }
+    }
+
     /// An item that is one token, with its weight.
     fn alone(&mut self, weight: u16, item: Item) -> Result<Item, SourceError>
         requires { IsReadyParser self.old }
@@ -266,10 +298,37 @@ impl<'a> Parser<'a> {
         ensures same { length self.new.reader.rest ≡ length self.old.reader.rest }
         ensures ready { OnOk result (IsReadyParser self.new) }
     {
-        match self.weigh(weight) {
-            Ok(()) => Ok(item),
-            Err(error) => Err(error),
+        let number = self.reader.count();
+        self.alone_as(number, weight, item)
+    }
+
+    /// A token read as a name.
+    fn spelled(&mut self) -> Result<&'a str, SourceError>
+        requires { IsReadyParser self.old }
+        ensures gives { AnswersAs (λ name. record { name = name.now; at = parser_state self.new }) result (spelled_at (parser_state self.old)) }
+        ensures form { IfOk result (λ name. IsName name.now) }
+        ensures shorter { OnOk result (length self.new.reader.rest < length self.old.reader.rest) }
+        ensures ready { OnOk result (IsReadyParser self.new) }
+        ensures kept { (self.new.dictionary ≡ self.old.dictionary) × (self.new.definitions ≡ self.old.definitions) }
+    {
+        match self.reader.name() {
+            Err(refusal) => refused(refusal.token, source_cause(refusal.cause)),
+            Ok(None) => refused(self.reader.count() + 1, SourceCause::NeedsName),
+            Ok(Some(token)) => Ok(token.text),
         }
+    }
+
+    /// `[CHAR]` and the name that it reads.
+    fn char_item(&mut self) -> Result<Item, SourceError>
+        requires { IsReadyParser self.old }
+        ensures gives { AnswersAs (λ item. record { node = node_of item; at = parser_state self.new }) result (char_at (parser_state self.old)) }
+        ensures shorter { OnOk result (length self.new.reader.rest ≤ length self.old.reader.rest) }
+        ensures ready { OnOk result (IsReadyParser self.new) }
+    {
+        let number = self.reader.count();
+        let name = self.spelled()?;
+        let byte = first_byte(name);
+        self.alone_as(number, entry(Word::BracketChar).weight, Item::Literal(byte))
     }
 
     /// The item that begins with the token just read.
@@ -300,6 +359,7 @@ impl<'a> Parser<'a> {
                 self.alone(entry(Word::Leave).weight, Item::Leave)
             }
             Sense::Exits => self.alone(entry(Word::Exit).weight, Item::Exit),
+            Sense::Spells => self.char_item(),
             Sense::OutOfRange => refused(self.reader.count(), SourceCause::NumberRange),
             Sense::Unknown => refused(self.reader.count(), SourceCause::UnknownWord),
             Sense::NotYet => Err(SourceError::NotYet),
@@ -371,18 +431,13 @@ impl<'a> Parser<'a> {
         ensures ready { OnOk result (IsReadyParser self.new) }
         ensures kept { (self.new.dictionary ≡ self.old.dictionary) × (self.new.definitions ≡ self.old.definitions) }
     {
-        match self.reader.name() {
-            Err(refusal) => refused(refusal.token, source_cause(refusal.cause)),
-            Ok(None) => refused(self.reader.count() + 1, SourceCause::NeedsName),
-            Ok(Some(token)) => {
-                if is_reserved_name(token.text) {
-                    refused(token.number, SourceCause::NeedsName)
-                } else if self.dictionary.len() >= 512 {
-                    refused(token.number, SourceCause::TooManyWords)
-                } else {
-                    Ok(token.text)
-                }
-            }
+        let name = self.spelled()?;
+        if is_reserved_name(name) {
+            refused(self.reader.count(), SourceCause::NeedsName)
+        } else if self.dictionary.len() >= 512 {
+            refused(self.reader.count(), SourceCause::TooManyWords)
+        } else {
+            Ok(name)
         }
     }
 }

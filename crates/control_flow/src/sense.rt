@@ -27,6 +27,8 @@ pub(crate) enum Sense {
     Leaves,
     /// `EXIT`.
     Exits,
+    /// `[CHAR]`.
+    Spells,
     /// A number that is out of range.
     OutOfRange,
     /// No word and no number.
@@ -65,6 +67,7 @@ fn structure_sense(word: Word) -> Sense
         Word::Leave => Sense::Leaves,
         Word::Exit => Sense::Exits,
         Word::Recurse => Sense::Recurses,
+        Word::BracketChar => Sense::Spells,
         _ => Sense::NotYet,
     }
 }

@@ -87,7 +87,7 @@ fn outcome(alloc: Global, text: &[u8]) -> Result<(u16, u32), SourceError> {
 
 #[test]
 fn judges_texts(rt: HostRuntime) {
-    let rows: [(&[u8], Result<(u16, u32), SourceError>); 51] = [
+    let rows: [(&[u8], Result<(u16, u32), SourceError>); 54] = [
         // one definition, and none
         (b"", refused(1, SourceCause::NoMain)),
         (b"( abc", refused(1, SourceCause::OpenComment)),
@@ -158,9 +158,15 @@ fn judges_texts(rt: HostRuntime) {
         (b": MAIN ; 5 CONSTANT X", Err(SourceError::NotYet)),
         (b"XYZZY", Err(SourceError::NotYet)),
         (b"XYZZY\x80", refused(1, SourceCause::NotText)),
-        (b": MAIN [CHAR] A XYZZY ;", Err(SourceError::NotYet)),
+        (b": MAIN [CHAR] A [CHAR] ( [char] XYZ ;", Ok((1, 9))),
         (
-            b": MAIN XYZZY [CHAR] A ;",
+            b": MAIN [CHAR] A XYZZY ;",
+            refused(5, SourceCause::UnknownWord),
+        ),
+        (b": MAIN [CHAR]", refused(4, SourceCause::NeedsName)),
+        (b": MAIN [CHAR] A\x80 ;", refused(4, SourceCause::NotText)),
+        (
+            b": MAIN XYZZY ['] A ;",
             refused(3, SourceCause::UnknownWord),
         ),
         (b": MAIN ; DUP ( a", Err(SourceError::NotYet)),
@@ -174,7 +180,7 @@ fn judges_texts(rt: HostRuntime) {
 #[test]
 fn keeps_the_limits(rt: HostRuntime) -> Result<(), Fail> {
     // what stands first, what comes so often, and what stands last
-    let rows: [(&[u8], &[u8], u32, &[u8], Result<(u16, u32), SourceError>); 20] = [
+    let rows: [(&[u8], &[u8], u32, &[u8], Result<(u16, u32), SourceError>); 21] = [
         (b": F ", b"IF ", 17, b"", refused(19, SourceCause::TooDeep)),
         (
             b": F ",
@@ -271,6 +277,13 @@ fn keeps_the_limits(rt: HostRuntime) -> Result<(), Fail> {
             1200,
             b"BEGIN LOOP",
             refused(1204, SourceCause::BadNest),
+        ),
+        (
+            b": MAIN DUP ",
+            b"1 ",
+            1199,
+            b"[CHAR] A",
+            refused(1203, SourceCause::CodeFull),
         ),
         (
             b": MAIN ",

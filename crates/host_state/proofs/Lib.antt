@@ -1,0 +1,7 @@
+mod Examples
+mod Stacks
+mod Cells
+mod Times
+mod Entries
+mod Keeping
+mod Images
