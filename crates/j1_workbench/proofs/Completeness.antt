@@ -16,12 +16,13 @@ use Rattle.depth_certifier.specs.declared.effect.CertCause.{CertCause}
 use Rattle.depth_certifier.specs.Certificate.{Cert, IsValid}
 use Rattle.depth_certifier.specs.Rounds.{Refusal, RoundsRefuse, ProperToken, RoundsEnd, RoundsFindTheLeast, RefusedHaveNone, OneRefusal}
 use Rattle.j1_workbench.specs.declared.status.Status.{Status}
-use Rattle.j1_workbench.specs.declared.status.Status.TheVariants.{Done, BadWords, Missing, SourceRefused, NotCertified, StepsUsed, InputEnded, Outside, Halted, ReadFault, WriteFault, OutOfMemory, TooLarge, NotYet}
+use Rattle.j1_workbench.specs.declared.status.Status.TheVariants.{Done, BadWords, Missing, SourceRefused, NotCertified, StepsUsed, InputEnded, Outside, Halted, ReadFault, WriteFault, OutOfMemory, TooLarge, NotYet, BoundRefused}
 use Rattle.j1_workbench.specs.Surroundings.{Stream, FolderState, Surroundings}
 use Rattle.j1_workbench.specs.Sources.{HoldsFile, HasCertificate, IsUncertified, IsRefusedText, IsRefusedSource}
 use Rattle.j1_workbench.specs.Running.{IsRunAnswer, Runs}
 use Rattle.j1_workbench.specs.Certifying.{Writes, Certifies}
-use Rattle.j1_workbench.specs.Completeness.{Tells, FailsNowhere, IsComplete, IsJudged, AnswersAreComplete}
+use Rattle.j1_workbench.specs.Bounding.{WritesBound, HasNoBound, Bounds}
+use Rattle.j1_workbench.specs.Completeness.{Tells, FailsNowhere, IsComplete, IsBoundAnswer, IsAnswerOfText, IsJudged, AnswersAreComplete}
 
 -- ---- a text has one outcome
 
@@ -51,6 +52,7 @@ by_kind P text (Halted number) name refused long faulty uncertified unbuilt = ab
 by_kind P text ReadFault name refused long faulty uncertified unbuilt = absurd refused
 by_kind P text WriteFault name refused long faulty uncertified unbuilt = absurd refused
 by_kind P text OutOfMemory name refused long faulty uncertified unbuilt = absurd refused
+by_kind P text (BoundRefused id cause) name refused long faulty uncertified unbuilt = absurd refused
 
 refused_not_certified : (text : List ℕ) (status : Status) (name : List ℕ) (p : SourceProgram) (z : Cert) → IsRefusedText text status name → HasCertificate text p z → ⊥
 refused_not_certified text status name p z refused c =
@@ -122,6 +124,7 @@ refused_source source text before after InputEnded name told calm refused = refu
 refused_source source text before after (Outside address) name told calm refused = refused_text source text before (Outside address) name told refused
 refused_source source text before after (Halted number) name told calm refused = refused_text source text before (Halted number) name told refused
 refused_source source text before after WriteFault name told calm refused = refused_text source text before WriteFault name told refused
+refused_source source text before after (BoundRefused id cause) name told calm refused = refused_text source text before (BoundRefused id cause) name told refused
 
 -- a refused text and a certified one
 by_refusal : OneRefusal → (text : List ℕ) (status : Status) (name : List ℕ) (IsAnswer : Status → Type 0) → (status ≡ OutOfMemory) ⊎ IsRefusedText text status name → IsComplete text status IsAnswer
@@ -169,6 +172,7 @@ done_answer t before after ReadFault writes calm = absurd writes
 done_answer t before after OutOfMemory writes calm = absurd writes
 done_answer t before after TooLarge writes calm = absurd writes
 done_answer t before after NotYet writes calm = absurd writes
+done_answer t before after (BoundRefused id cause) writes calm = absurd writes
 
 certify_complete : OneRefusal → (source text : List ℕ) (before after : Surroundings) (status : Status) (name : List ℕ) →
     Certifies source before after status name → Tells before.folder.files source text → FailsNowhere before after → IsComplete text status (λ s. s ≡ Done)
@@ -179,6 +183,22 @@ certify_complete one source text before after status name (read, console, inr wr
     by_certificate text status (λ s. s ≡ Done) wrote.program wrote.certificate
     (subst (λ t. HasCertificate t wrote.program wrote.certificate) (told_text before.folder.files source text wrote.source_is.0 told wrote.source_is.1) wrote.source_is.2)
     (done_answer _ before.out after.out status wrote.writes calm.out)
+
+bound_answer : (program : SourceProgram) (before after : Stream) (status : Status) (name : List ℕ) → WritesBound program before after status ⊎ HasNoBound program before after status name → (Rose before.faults after.faults → ⊥) →
+    IsBoundAnswer program status
+bound_answer program before after status name (inl wrote) calm =
+    subst (IsBoundAnswer program) (sym (done_answer _ before after status wrote.writes calm)) (wrote.steps, wrote.bound)
+bound_answer program before after status name (inr none) calm = subst (IsBoundAnswer program) (sym none.status_is) none.refused
+
+bound_complete : OneRefusal → (source text : List ℕ) (before after : Surroundings) (status : Status) (name : List ℕ) →
+    Bounds source before after status name → Tells before.folder.files source text → FailsNowhere before after → IsComplete text status (IsAnswerOfText text)
+unfolding Bounds
+bound_complete one source text before after status name (read, console, inl refused) told calm =
+    by_refusal one text status name (IsAnswerOfText text) (refused_source source text before.folder after.folder status name told calm.folder refused.0)
+bound_complete one source text before after status name (read, console, inr bounds) told calm =
+    let found = subst (λ t. HasCertificate t bounds.program bounds.certificate) (told_text before.folder.files source text bounds.source_is.0 told bounds.source_is.1) bounds.source_is.2 in
+    by_certificate text status (IsAnswerOfText text) bounds.program bounds.certificate found
+    (bounds.program, found.program_is, bound_answer bounds.program before.out after.out status name bounds.answers calm.out)
 
 -- ---- each text is judged
 
@@ -214,4 +234,5 @@ complete each sources end least none one = record {
   each = judged each sources end least none;
   run = run_complete one;
   certify = certify_complete one;
+  bound = bound_complete one;
 }

@@ -18,7 +18,8 @@ use Rattle.j1_simulator.specs.RoundMachine.{round_storage}
 use Rattle.j1_simulator.specs.Drive.{HoldsPrints, StandsAt, IsAt, driven, going_on, left_of, IsDriven, IsBrokenOff, MadeAtMost, in_vain as asked_in_vain, end_told}
 use Rattle.j1_simulator.specs.Laws.{OnlyGrows}
 use Rattle.j1_workbench.specs.declared.status.Status.{Status}
-use Rattle.j1_workbench.specs.declared.status.Status.TheVariants.{Done, BadWords, Missing, SourceRefused, NotCertified, StepsUsed as OutOfSteps, InputEnded, Outside, Halted, ReadFault, WriteFault, OutOfMemory, TooLarge, NotYet}
+use Rattle.j1_workbench.specs.declared.status.Status.TheVariants.{Done, BadWords, Missing, SourceRefused, NotCertified, StepsUsed as OutOfSteps, InputEnded}
+use Rattle.j1_workbench.specs.declared.status.Status.TheVariants.{Outside, Halted, ReadFault, WriteFault, OutOfMemory, TooLarge, NotYet, BoundRefused}
 use Rattle.j1_workbench.specs.Statuses.{status_of, halted_status}
 use Rattle.j1_workbench.specs.Surroundings.{Stream}
 use Rattle.j1_workbench.specs.Running.{IsRunAnswer, RanAs, DriveLeaves, in_vain, Gave, Drives, status_after}
@@ -60,6 +61,7 @@ as_run image input steps (NotCertified id cause) left before now answer ran = ab
 as_run image input steps OutOfMemory left before now answer ran = absurd answer
 as_run image input steps TooLarge left before now answer ran = absurd answer
 as_run image input steps NotYet left before now answer ran = absurd answer
+as_run image input steps (BoundRefused id cause) left before now answer ran = absurd answer
 
 -- what an Ok, a failed read and a failed write say
 abbrev pub OkSays : ℕ → MachineState → MachineState → Result Finish DriveError → Option (List ℕ) → Option (List ℕ) → Option (List ℕ) → List ℕ → Type 0

@@ -15,7 +15,7 @@ use Rattle.depth_certifier.specs.Rounds.{RoundsRefuse}
 use Rattle.depth_certifier.specs.Settling.{IsRefusal}
 use Rattle.forth_program.specs.declared.item.DefId.{DefId}
 use Rattle.j1_workbench.specs.declared.status.Status.{Status}
-use Rattle.j1_workbench.specs.declared.status.Status.TheVariants.{Done, BadWords, Missing, SourceRefused, NotCertified, StepsUsed, InputEnded, Outside, Halted, ReadFault, WriteFault, OutOfMemory, TooLarge, NotYet}
+use Rattle.j1_workbench.specs.declared.status.Status.TheVariants.{Done, BadWords, Missing, SourceRefused, NotCertified, StepsUsed, InputEnded, Outside, Halted, ReadFault, WriteFault, OutOfMemory, TooLarge, NotYet, BoundRefused}
 use Rattle.j1_workbench.specs.Notes.{named}
 use Rattle.j1_workbench.specs.Surroundings.{FolderState}
 use Rattle.j1_workbench.specs.Sources.{HoldsFile, HasCertificate, IsUncertified, IsCertifiedSource, IsRefusedText, IsRefusedSource}
@@ -60,6 +60,7 @@ refused_as text front (Halted number) name same refused = absurd refused
 refused_as text front ReadFault name same refused = absurd refused
 refused_as text front WriteFault name same refused = absurd refused
 refused_as text front OutOfMemory name same refused = absurd refused
+refused_as text front (BoundRefused id cause) name same refused = absurd refused
 
 -- what is found out of the bytes that were read holds of the file
 pub certified_file : (files : Option Files) (source front : List ℕ) (before : FolderState) (program : SourceProgram) (certificate : Cert) →
@@ -90,6 +91,7 @@ refused_source source front before after (Halted number) name read refused = abs
 refused_source source front before after ReadFault name read refused = absurd refused
 refused_source source front before after WriteFault name read refused = absurd refused
 refused_source source front before after OutOfMemory name read refused = absurd refused
+refused_source source front before after (BoundRefused id cause) name read refused = absurd refused
 
 pub refused_read : (source front : List ℕ) (before after : FolderState) (status : Status) (name : List ℕ) →
     HasFront before.files source 65537 front → (status ≡ OutOfMemory) ⊎ IsRefusedText front status name → IsRefusedSource source before after status name
@@ -99,7 +101,12 @@ refused_read source front before after status name read (inr refused) = refused_
 no_name : IsSome {T = List ℕ} None → ⊥
 no_name some = cc
 
--- a definition that is refused is named, since its name has the form of a name
+-- a definition is named, since its name has the form of a name
+pub definition_named : (name : Option (List ℕ)) (told : List ℕ) → (IsSome name ↔ IsName told) → IfSome name (λ n. n ≡ told) → IsName told → named name ≡ told
+definition_named None told form value is = absurd (no_name (form.1 is))
+definition_named (Some n) told form value is = value
+
+-- so is one that is refused
 pub uncertified_text : (text : List ℕ) (program : SourceProgram) (error : CertError) (id : DefId) (cause : CertCause) (name : Option (List ℕ)) (told : List ℕ) →
     length text ≤ 65536 → program_of_text text ≡ Fine program → error ≡ NoCertificate id cause → IsRefusal error (λ r. RoundsRefuse program r) → IsRefusal error (λ r. (z : Cert) → IsValid program z → ⊥) →
     told ≡ slice_index_or program.names id.0 [] → (IsSome name ↔ IsName told) → IfSome name (λ n. n ≡ told) → IsName told →

@@ -5,14 +5,13 @@ use Rattle.std.specs.Borrow.{Bor}
 use Rattle.std.specs.Io.KnownBytes.{Appends}
 use Rattle.std.proofs.lemmas.List.{append-nil, take_all}
 use Rattle.outside_io.specs.Bytes.{AppendsFront, WritesAll}
-use Rattle.depth_certifier.specs.declared.effect.CertCause.{CertCause}
 use Rattle.j1_workbench.specs.declared.status.Status.{Status}
 use Rattle.outside_io.specs.Causes.{Rose}
 use Rattle.j1_workbench.specs.declared.status.Status.TheVariants.{Done, WriteFault}
 use Rattle.j1_workbench.specs.Words.{request_of}
 use Rattle.j1_workbench.specs.Surroundings.{Stream, Surroundings}
 use Rattle.j1_workbench.specs.Answers.{Does, Answers}
-use Rattle.j1_workbench.specs.Notes.{ended, note_of, line, uncertified}
+use Rattle.j1_workbench.specs.Notes.{ended, note_of, line}
 
 -- one write after another
 pub appends_then : (before between after : Option (List ℕ)) (xs ys : List ℕ) → Appends before between xs → Appends between after ys → Appends before after (xs ++ ys)
@@ -58,11 +57,11 @@ pub noted : {T E : Type 0} (before after : Option (List ℕ)) (result : Result T
     status ≡ known → text ≡ note_of words known name → WritesAll before after result text → WritesAll before after result (note_of words status name)
 noted before after result words name status known text is same written = subst (WritesAll before after result) (same ∙ sym (ap (λ s. note_of words s name) is)) written
 
--- the line of a definition without a certificate, for a cause that is known
-pub uncertified_noted : {T E : Type 0} (before after : Option (List ℕ)) (result : Result T E) (name written : List ℕ) (known cause : CertCause) (text : List ℕ) →
-    cause ≡ known → written ≡ name → text ≡ line (written ∷ uncertified known ∷ []) → WritesAll before after result text → WritesAll before after result (line (name ∷ uncertified cause ∷ []))
-uncertified_noted before after result name written known cause text is same whole done =
-    subst (λ c. WritesAll before after result (line (name ∷ uncertified c ∷ []))) (sym is) (subst (λ n. WritesAll before after result (line (n ∷ uncertified known ∷ []))) same (subst (WritesAll before after result) whole done))
+-- the line of a definition, for a text behind it that is known
+pub definition_noted : {T E : Type 0} (before after : Option (List ℕ)) (result : Result T E) (name written known wanted text : List ℕ) →
+    wanted ≡ known → written ≡ name → text ≡ line (written ∷ known ∷ []) → WritesAll before after result text → WritesAll before after result (line (name ∷ wanted ∷ []))
+definition_noted before after result name written known wanted text is same whole done =
+    subst (λ w. WritesAll before after result (line (name ∷ w ∷ []))) (sym is) (subst (λ n. WritesAll before after result (line (n ∷ known ∷ []))) same (subst (WritesAll before after result) whole done))
 
 -- whether the note was written decides the answer
 pub noted_ok : (words : List (List ℕ)) (before after : Surroundings) (notes_before notes_after : Stream) (status : Status) (name : List ℕ) →

@@ -1,7 +1,7 @@
 -- Commands of the program, as what is asked for.
 use Rattle.j1_workbench.specs.declared.words.Command.{Command}
 use Rattle.j1_workbench.specs.declared.words.Command.TheVariants as command
-use Rattle.j1_workbench.specs.Words.{Request, Run, Build, Execute, ListImage, Assemble, Certify, Evaluate, Forth, Make}
+use Rattle.j1_workbench.specs.Words.{Request, Run, Build, Execute, ListImage, Assemble, Certify, Evaluate, Forth, Make, Bound}
 
 abbrev pub requested : Command → Request
 requested (command.Run source steps) = Run source.now steps
@@ -13,3 +13,4 @@ requested (command.Certify source) = Certify source.now
 requested (command.Evaluate source steps) = Evaluate source.now steps
 requested (command.Forth steps) = Forth steps
 requested (command.Make seed count) = Make seed count
+requested (command.Bound source) = Bound source.now

@@ -3,13 +3,17 @@ use Rattle.std.specs.Prelude.{◌≡◌, ◌⊎◌, ℕ, List, Option, None, Som
 use Rattle.outside_io.specs.Causes.{Rose}
 use Rattle.outside_io.specs.Files.{Files}
 use Rattle.forth_program.specs.Program.{SourceProgram}
+use Rattle.control_flow.specs.ParseResult.{Fine}
+use Rattle.control_flow.specs.SourceText.{program_of_text}
 use Rattle.depth_certifier.specs.Certificate.{Cert}
 use Rattle.j1_workbench.specs.declared.status.Status.{Status}
-use Rattle.j1_workbench.specs.declared.status.Status.TheVariants.{Done, OutOfMemory}
+use Rattle.step_certifier.specs.Bound.{Bounded, Refused, step_bound}
+use Rattle.j1_workbench.specs.declared.status.Status.TheVariants.{Done, OutOfMemory, BoundRefused}
 use Rattle.j1_workbench.specs.Surroundings.{Surroundings}
 use Rattle.j1_workbench.specs.Sources.{HasCertificate, IsRefusedText}
 use Rattle.j1_workbench.specs.Running.{IsRunAnswer, Runs}
 use Rattle.j1_workbench.specs.Certifying.{Certifies}
+use Rattle.j1_workbench.specs.Bounding.{Bounds}
 
 -- the folder tells its files, and this one has this text
 abbrev pub Tells : Option Files → List ℕ → List ℕ → Type 0
@@ -27,6 +31,15 @@ pub record IsComplete (text : List ℕ) (status : Status) (IsAnswer : Status →
   pub refused : (refusal : Status) (name : List ℕ) → IsRefusedText text refusal name → (status ≡ OutOfMemory) ⊎ (status ≡ refusal)
   pub certified : (program : SourceProgram) (certificate : Cert) → HasCertificate text program certificate → (status ≡ OutOfMemory) ⊎ IsAnswer status
 
+-- the answer of `bound`: the program has a bound, or the answer says why it has none
+abbrev pub IsBoundAnswer : SourceProgram → Status → Type 0
+IsBoundAnswer program Done = (steps : ℕ) × (step_bound program ≡ Bounded steps)
+IsBoundAnswer program (BoundRefused definition cause) = step_bound program ≡ Refused definition.0 cause
+IsBoundAnswer program status = ⊥
+
+abbrev pub IsAnswerOfText : List ℕ → Status → Type 0
+IsAnswerOfText text status = (program : SourceProgram) × (program_of_text text ≡ Fine program) × IsBoundAnswer program status
+
 -- a text is refused, or certified
 abbrev pub IsJudged : List ℕ → Type 0
 IsJudged text = ((refusal : Status) × (name : List ℕ) × IsRefusedText text refusal name) ⊎ ((program : SourceProgram) × (certificate : Cert) × HasCertificate text program certificate)
@@ -37,3 +50,5 @@ pub record AnswersAreComplete : Type 0 where
       Runs source steps before after status name → Tells before.folder.files source text → FailsNowhere before after → IsComplete text status IsRunAnswer
   pub certify : (source text : List ℕ) (before after : Surroundings) (status : Status) (name : List ℕ) →
       Certifies source before after status name → Tells before.folder.files source text → FailsNowhere before after → IsComplete text status (λ s. s ≡ Done)
+  pub bound : (source text : List ℕ) (before after : Surroundings) (status : Status) (name : List ℕ) →
+      Bounds source before after status name → Tells before.folder.files source text → FailsNowhere before after → IsComplete text status (IsAnswerOfText text)

@@ -8,5 +8,6 @@ pub mod Sources
 pub mod Headline
 pub mod Running
 pub mod Certifying
+pub mod Bounding
 pub mod Answers
 pub mod Completeness

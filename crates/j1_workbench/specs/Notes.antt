@@ -4,8 +4,10 @@ use Rattle.control_flow.specs.declared.refusal.SourceCause.{SourceCause}
 use Rattle.control_flow.specs.declared.refusal.SourceCause.TheVariants as cause
 use Rattle.depth_certifier.specs.declared.effect.CertCause.{CertCause}
 use Rattle.depth_certifier.specs.declared.effect.CertCause.TheVariants as certificate
+use Rattle.step_certifier.specs.declared.bound.BoundCause.{BoundCause}
+use Rattle.step_certifier.specs.declared.bound.BoundCause.TheVariants as bound
 use Rattle.j1_workbench.specs.declared.status.Status.{Status}
-use Rattle.j1_workbench.specs.declared.status.Status.TheVariants.{Done, BadWords, Missing, SourceRefused, NotCertified, StepsUsed, InputEnded, Outside, Halted, ReadFault, WriteFault, OutOfMemory, TooLarge, NotYet}
+use Rattle.j1_workbench.specs.declared.status.Status.TheVariants.{Done, BadWords, Missing, SourceRefused, NotCertified, StepsUsed, InputEnded, Outside, Halted, ReadFault, WriteFault, OutOfMemory, TooLarge, NotYet, BoundRefused}
 
 -- the file that is read: the word behind the command
 abbrev pub file_named : List (List ℕ) → List ℕ
@@ -48,6 +50,14 @@ uncertified certificate.Data = codes ": not certified: Data"
 uncertified certificate.Return = codes ": not certified: Return"
 uncertified certificate.Shape = codes ": not certified: Shape"
 
+-- why a program has no step bound
+abbrev pub unbounded : BoundCause → List ℕ
+unbounded bound.BeginLoop = codes ": no bound: BeginLoop"
+unbounded bound.OpenBounds = codes ": no bound: OpenBounds"
+unbounded bound.Recursion = codes ": no bound: Recursion"
+unbounded bound.Execute = codes ": no bound: Execute"
+unbounded bound.TooLarge = codes ": no bound: TooLarge"
+
 -- the definition that an answer names, or no bytes
 abbrev pub named : Option (List ℕ) → List ℕ
 named None = []
@@ -69,3 +79,4 @@ note_of words WriteFault name = line (codes "write fault" ∷ [])
 note_of words OutOfMemory name = line (codes "out of memory" ∷ [])
 note_of words TooLarge name = line (file_named words ∷ codes ": too large" ∷ [])
 note_of words NotYet name = line (codes "not yet" ∷ [])
+note_of words (BoundRefused id cause) name = line (name ∷ unbounded cause ∷ [])

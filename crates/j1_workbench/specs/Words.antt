@@ -15,6 +15,7 @@ pub data Request : Type 0 where
   Evaluate : (source : List ℕ) (steps : Option ℕ) → Request
   Forth : (steps : Option ℕ) → Request
   Make : (seed count : ℕ) → Request
+  Bound : (source : List ℕ) → Request
 
 -- a file's name has 1 to 255 bytes, of which the first is no `-`
 abbrev pub is_file_name : List ℕ → Bool
@@ -63,6 +64,7 @@ request_for command words =
     else if bytes_eq command (codes "eval") then name_and_steps 20000000 Evaluate words
     else if bytes_eq command (codes "forth") then option_map (λ steps. Forth steps) (steps_of 1000000000 words)
     else if bytes_eq command (codes "make") then make_of words
+    else if bytes_eq command (codes "bound") then one_name Bound words
     else None
 
 -- what these words ask for, where they have the form of a command

@@ -6,6 +6,7 @@ ghost use Rattle.j1_workbench.specs.Surroundings.{folder, stream, surroundings};
 ghost use Rattle.j1_workbench.specs.Answers.{Does};
 
 use crate::answer::{Answer, answered};
+use crate::bounding::bound;
 use crate::certifying::certify;
 use crate::running::run;
 use crate::status::Status;
@@ -25,7 +26,7 @@ fn steps_allowed(steps: Option<u32>) -> u64
 }
 
 /// Does what the words of a command line ask for, but for the note.
-#[tactic(auto, using(crate::proofs::Commands::does_nothing, crate::proofs::Commands::does_run, crate::proofs::Commands::does_certify, crate::proofs::Commands::does_not_yet))]
+#[tactic(auto, using(crate::proofs::Commands::does_nothing, crate::proofs::Commands::does_run, crate::proofs::Commands::does_certify, crate::proofs::Commands::does_bound, crate::proofs::Commands::does_not_yet))]
 pub fn answer<F: Folder, C: Source, O: Sink>(
     alloc: Global,
     words: &[String],
@@ -45,6 +46,7 @@ pub fn answer<F: Folder, C: Source, O: Sink>(
             run(alloc, source, steps_allowed(steps), files, console, out)
         }
         Some(Command::Certify { source }) => certify(alloc, source, files, out),
+        Some(Command::Bound { source }) => bound(alloc, source, files, out),
         Some(Command::Build { .. }) => answered(Status::NotYet),
         Some(Command::Execute { .. }) => answered(Status::NotYet),
         Some(Command::ListImage { .. }) => answered(Status::NotYet),

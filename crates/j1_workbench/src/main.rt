@@ -3,6 +3,7 @@
 
 mod answer;
 mod answering;
+mod bounding;
 mod certifying;
 mod laws;
 mod notes;

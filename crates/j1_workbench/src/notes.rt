@@ -2,7 +2,7 @@
 ghost use Rattle.std.specs.Prelude.{◌≡◌, ◌≢◌, ◌∷◌, [], IsErr, map, string_bytes};
 ghost use Rattle.outside_io.specs.Causes.{HasCause};
 ghost use Rattle.outside_io.specs.Bytes.{WritesAll};
-ghost use Rattle.j1_workbench.specs.Notes.{file_named, ended, line, cause_named, uncertified, named, note_of};
+ghost use Rattle.j1_workbench.specs.Notes.{file_named, ended, line, cause_named, uncertified, unbounded, named, note_of};
 
 use crate::answer::named;
 use crate::status::Status;
@@ -11,9 +11,10 @@ use depth_certifier::CertCause;
 use forth_program::Name;
 use itoa::Buffer;
 use outside_io::{Failed, Sink};
+use step_certifier::BoundCause;
 
-// Writes parts one behind the other, and a line feed.
-fn write_parts<N: Sink>(notes: &mut N, parts: &[&[u8]]) -> Result<(), Failed>
+/// Writes parts one behind the other, and a line feed.
+pub fn write_parts<N: Sink>(notes: &mut N, parts: &[&[u8]]) -> Result<(), Failed>
     ensures bytes { WritesAll (N.held notes.old) (N.held notes.new) result (ended (map (λ part. part.now) parts.now)) }
     ensures cause { HasCause (N.faults notes.old) (N.faults notes.new) result }
 {
@@ -91,6 +92,34 @@ fn write_uncertified<N: Sink>(
     }
 }
 
+// The line of a definition without a step bound.
+fn write_unbounded<N: Sink>(
+    notes: &mut N,
+    name: &Option<Name>,
+    cause: BoundCause,
+) -> Result<(), Failed>
+    ensures bytes { WritesAll (N.held notes.old) (N.held notes.new) result (line (named name.now ∷ unbounded cause ∷ [])) }
+    ensures cause { HasCause (N.faults notes.old) (N.faults notes.new) result }
+{
+    match cause {
+        BoundCause::BeginLoop => {
+            write_line(notes, &[named(name).as_bytes(), b": no bound: BeginLoop"])
+        }
+        BoundCause::OpenBounds => {
+            write_line(notes, &[named(name).as_bytes(), b": no bound: OpenBounds"])
+        }
+        BoundCause::Recursion => {
+            write_line(notes, &[named(name).as_bytes(), b": no bound: Recursion"])
+        }
+        BoundCause::Execute => {
+            write_line(notes, &[named(name).as_bytes(), b": no bound: Execute"])
+        }
+        BoundCause::TooLarge => {
+            write_line(notes, &[named(name).as_bytes(), b": no bound: TooLarge"])
+        }
+    }
+}
+
 /// Writes the line of an answer, which may name a definition, in pieces and without memory. Done has none.
 pub fn write_note<N: Sink>(
     notes: &mut N,
@@ -128,5 +157,6 @@ pub fn write_note<N: Sink>(
         Status::OutOfMemory => write_line(notes, &[b"out of memory"]),
         Status::TooLarge => write_line(notes, &[file_named(words).as_bytes(), b": too large"]),
         Status::NotYet => write_line(notes, &[b"not yet"]),
+        Status::BoundRefused(_, cause) => write_unbounded(notes, name, cause),
     }
 }

@@ -5,6 +5,7 @@ ghost use Rattle.j1_workbench.specs.Statuses.{number_of};
 use control_flow::SourceRefusal;
 use depth_certifier::CertCause;
 use forth_program::DefId;
+use step_certifier::BoundCause;
 
 /// How a call of the workbench ends.
 #[derive(Clone, Copy, Debug, PartialEq, Eq)]
@@ -37,6 +38,8 @@ pub enum Status {
     TooLarge,
     /// The command, or the source text, is not built yet.
     NotYet,
+    /// The program has no step bound: the definition of the first item without one, and why.
+    BoundRefused(DefId, BoundCause),
 }
 
 /// The exit status of the program for a status.
@@ -58,5 +61,6 @@ pub fn status_number(status: &Status) -> u8
         Status::OutOfMemory => 12,
         Status::TooLarge => 13,
         Status::NotYet => 15,
+        Status::BoundRefused(_, _) => 16,
     }
 }

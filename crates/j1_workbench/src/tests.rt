@@ -1,4 +1,5 @@
 // Worked calls of the workbench, with answers from outside.
+mod bounds;
 mod commands;
 mod folders;
 mod library;

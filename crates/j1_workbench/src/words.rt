@@ -1,6 +1,6 @@
 // The words of a command line.
 ghost use Rattle.std.specs.Prelude.{◌≡◌, ℕ, List, Option, map, option_map, string_bytes};
-ghost use Rattle.j1_workbench.specs.Words.{is_file_name, steps_of, one_name, two_names, name_and_steps, make_of, request_for, request_of, Request, Run, Build, Execute, ListImage, Assemble, Certify, Evaluate, Forth, Make};
+ghost use Rattle.j1_workbench.specs.Words.{is_file_name, steps_of, one_name, two_names, name_and_steps, make_of, request_for, request_of, Request, Run, Build, Execute, ListImage, Assemble, Certify, Evaluate, Forth, Make, Bound};
 ghost use Rattle.j1_workbench.specs.Commands.{requested};
 
 use crate::numbers::number_in;
@@ -17,6 +17,7 @@ pub enum Command<'a> {
     Evaluate { source: &'a str, steps: Option<u32> },
     Forth { steps: Option<u32> },
     Make { seed: u32, count: u32 },
+    Bound { source: &'a str },
 }
 
 // The greatest numbers of instructions and of word steps that words may give.
@@ -146,6 +147,8 @@ fn command_for<'a>(command: &str, words: &'a [String]) -> Option<Command<'a>>
         steps_of(words, MOST_STEPS).map(|steps| Command::Forth { steps })
     } else if command == "make" {
         make_of(words).map(|(seed, count)| Command::Make { seed, count })
+    } else if command == "bound" {
+        one_name(words).map(|source| Command::Bound { source })
     } else {
         None
     }

@@ -14,7 +14,9 @@ run source.fs x                  | : MAIN ;                     |  |  | 1 bad wo
 run source.fs --steps            | : MAIN ;                     |  |  | 1 bad words
 run source.fs --steps 1000000001 | : MAIN ;                     |  |  | 1 bad words
 run source.fs --steps +1         | : MAIN ;                     |  |  | 1 bad words
-bound source.fs                  | : MAIN ;                     |  |  | 1 bad words
+bound                            | : MAIN ;                     |  |  | 1 bad words
+bound source.fs x                | : MAIN ;                     |  |  | 1 bad words
+bound NONE                       | : MAIN ;                     |  |  | 2 NONE: missing
 net source.fs                    | : MAIN ;                     |  |  | 1 bad words
 eval x --steps 20000001          | : MAIN ;                     |  |  | 1 bad words
 make 65536 1                     | : MAIN ;                     |  |  | 1 bad words
@@ -67,6 +69,9 @@ notes 4     | run source.fs     | : MAIN X ;                                   |
 notes 2     | run source.fs     | : MAIN 72 EMIT ABORT ;                       | x  | H  | 11 =j1:_
 files 1     | certify source.fs | : MAIN 72 EMIT ;                             | x  |    | 10 read fault
 writes 1    | certify source.fs | : MAIN 72 EMIT ;                             | x  |    | 11 write fault
+files 1     | bound source.fs   | : MAIN ;                                     | x  |    | 10 read fault
+writes 1    | bound source.fs   | : MAIN ;                                     | x  |    | 11 write fault
+writes 2    | bound source.fs   | : MAIN 10 0 DO LOOP ;                        | x  | 141 | 11 write fault
 questions 2 | run source.fs     | : MAIN KEY EMIT KEY EMIT KEY EMIT KEY EMIT ; |    |    | 7 input ended
 questions 3 | run source.fs     | : MAIN KEY EMIT KEY EMIT KEY EMIT KEY EMIT ; | x  | x  | 7 input ended
 questions 4 | run source.fs     | : MAIN KEY EMIT KEY EMIT KEY EMIT KEY EMIT ; | xy | xy | 7 input ended

@@ -1,12 +1,16 @@
 use Rattle.std.proofs.Common.{rules, refl}
 use Rattle.j1_workbench.specs.Words.{Build, Execute, ListImage, Assemble, Evaluate, Make}
 use Rattle.j1_workbench.specs.Surroundings.{stream}
-use Rattle.j1_workbench.proofs.Commands.{does_certify, does_not_yet}
+use Rattle.j1_workbench.proofs.Commands.{does_certify, does_bound, does_not_yet}
 use Rattle.j1_workbench.proofs.answering.answer.Goals as goal
 
 pub returns-in-Some-Certify : goal.returns-in-Some-Certify
 returns-in-Some-Certify g c =
     does_certify _ c.in-Some-Certify.source.now _ _ _ _ (search rules) (c.certify.ensures (stream (g.C.Source.left c.args.console.now) (g.C.Source.calls c.args.console.now) (g.C.Source.faults c.args.console.now)))
+
+pub returns-in-Some-Bound : goal.returns-in-Some-Bound
+returns-in-Some-Bound g c =
+    does_bound _ c.in-Some-Bound.source.now _ _ _ _ (search rules) (c.bound.ensures (stream (g.C.Source.left c.args.console.now) (g.C.Source.calls c.args.console.now) (g.C.Source.faults c.args.console.now)))
 
 pub returns-in-Some-Build : goal.returns-in-Some-Build
 returns-in-Some-Build g c = does_not_yet _ (Build c.in-Some-Build.field-0-0.now c.in-Some-Build.field-0-1.now) _ c.answered-in-Some-Build.result (search rules) refl c.answered-in-Some-Build.ensures
