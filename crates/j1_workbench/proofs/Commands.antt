@@ -2,6 +2,8 @@
 use Rattle.std.proofs.Common.{◌≡◌, inl, inr, ℕ, Bool, true, false, List, [], ◌∷◌, ◌++◌, refl, sym, subst}
 use Rattle.std.specs.Prelude.{Option, Some, None, decimal, slice_index_or}
 use Rattle.j1_table.specs.Image.{Content}
+use Rattle.decompiler.specs.Listing.{listing}
+use Rattle.decompiler.specs.Laws.{AssemblesOnlyTo}
 use Rattle.forth_program.specs.declared.item.DefId.{DefId}
 use Rattle.forth_program.specs.Program.{SourceProgram}
 use Rattle.library_laws.specs.Bodies.{whole_library}
@@ -18,10 +20,17 @@ use Rattle.j1_workbench.specs.declared.status.Status.TheVariants.{BadWords, OutO
 use Rattle.j1_workbench.specs.declared.answer.Answer.{Answer}
 use Rattle.j1_workbench.specs.Words.{Request, Run, Build, Execute, ListImage, Assemble, Certify, Evaluate, Forth, Make, Bound, steps_allowed}
 use Rattle.j1_workbench.specs.Notes.{named}
-use Rattle.j1_workbench.specs.Surroundings.{FolderState, Surroundings, IsReadOnce}
-use Rattle.j1_workbench.specs.Sources.{IsRefusedSource, IsCertifiedSource}
+use Rattle.j1_workbench.specs.Surroundings.{FolderState, Surroundings, IsOnlyRead}
+use Rattle.j1_workbench.specs.Sources.{HasCertificate, IsRefusedSource, IsCertifiedSource}
 use Rattle.j1_workbench.specs.Headline.{image_of, TextsAreBuilt, CertifiedTextsAgree}
-use Rattle.j1_workbench.specs.Running.{Drives, Runs}
+use Rattle.j1_workbench.specs.Driving.{Drives}
+use Rattle.j1_workbench.specs.Running.{Runs}
+use Rattle.j1_workbench.specs.Compiling.{CompilesText, CompilesSource}
+use Rattle.j1_workbench.specs.Building.{Builds}
+use Rattle.j1_workbench.specs.Executing.{Executes}
+use Rattle.j1_workbench.specs.ListingImage.{Lists}
+use Rattle.j1_workbench.specs.Assembling.{AssemblesFile}
+use Rattle.j1_workbench.specs.Making.{Makes}
 use Rattle.j1_workbench.specs.Certifying.{Writes, Certifies}
 use Rattle.j1_workbench.specs.Bounding.{Bounds}
 use Rattle.j1_workbench.specs.Answers.{Does}
@@ -29,6 +38,27 @@ use Rattle.j1_workbench.specs.Answers.{Does}
 -- the program of a source file can be laid out
 pub built : TextsAreBuilt → (source : List ℕ) (before : FolderState) (program : SourceProgram) (certificate : Cert) → IsCertifiedSource source before program certificate → IsBuilt whole_library program
 built laws source before program certificate found = laws found.0 program found.2.program_is
+
+pub text_built : TextsAreBuilt → (text : List ℕ) (program : SourceProgram) (certificate : Cert) → HasCertificate text program certificate → IsBuilt whole_library program
+text_built laws text program certificate found = laws text program found.program_is
+
+pub text_compiled : (text : List ℕ) (program : SourceProgram) (certificate : Cert) (image : Content) →
+    CertifiedTextsAgree → HasCertificate text program certificate → image ≡ image_of program → AssemblesOnlyTo (listing image) image → CompilesText text program image
+text_compiled text program certificate image laws found laid lists = record {
+  certificate = certificate;
+  certified = found;
+  compiled = record { laid = laid; does = laws text program certificate found.program_is found.least.valid; lists = lists };
+}
+
+-- the image of a source file
+pub compiled : (source : List ℕ) (before : FolderState) (program : SourceProgram) (certificate : Cert) (image : Content) →
+    CertifiedTextsAgree → IsCertifiedSource source before program certificate → image ≡ image_of program → AssemblesOnlyTo (listing image) image → CompilesSource source before image
+compiled source before program certificate image laws found laid lists = record {
+  program = program;
+  certificate = certificate;
+  source_is = found;
+  compiled = record { laid = laid; does = laws found.0 program certificate found.2.program_is found.2.least.valid; lists = lists };
+}
 
 -- its first data are bytes
 pub has_bytes : EachProgramIsSource → (source : List ℕ) (before : FolderState) (program : SourceProgram) (certificate : Cert) → IsCertifiedSource source before program certificate → AreBytes program.first_space
@@ -41,45 +71,36 @@ is_valid source before program certificate found = found.2.least.valid
 -- ---- run
 
 pub run_refused : (source : List ℕ) (steps : ℕ) (before after : Surroundings) (status : Status) (name : List ℕ) →
-    IsReadOnce before.folder after.folder → IsRefusedSource source before.folder after.folder status name → after.console ≡ before.console → after.out ≡ before.out → Runs source steps before after status name
+    IsOnlyRead 1 before.folder after.folder → IsRefusedSource source before.folder after.folder status name → after.console ≡ before.console → after.out ≡ before.out → Runs source steps before after status name
 unfolding Runs
 run_refused source steps before after status name read refused console out = (read, inl (refused, (console, out)))
 
 pub run_without_memory : (source : List ℕ) (steps : ℕ) (before after : Surroundings) (name : List ℕ) →
-    IsReadOnce before.folder after.folder → after.console ≡ before.console → after.out ≡ before.out → Runs source steps before after OutOfMemory name
+    IsOnlyRead 1 before.folder after.folder → after.console ≡ before.console → after.out ≡ before.out → Runs source steps before after OutOfMemory name
 unfolding Runs
 run_without_memory source steps before after name read console out = (read, inl (tt, (console, out)))
 
-pub run_driven : (source : List ℕ) (steps : ℕ) (before after : Surroundings) (status : Status) (answer : Answer) (program : SourceProgram) (certificate : Cert) (image : Content) →
-    answer ≡ record { status = status; name = None } → CertifiedTextsAgree → IsReadOnce before.folder after.folder → IsCertifiedSource source before.folder program certificate → image ≡ image_of program →
+pub run_driven : (source : List ℕ) (steps : ℕ) (before after : Surroundings) (status : Status) (answer : Answer) (image : Content) →
+    answer ≡ record { status = status; name = None } → IsOnlyRead 1 before.folder after.folder → CompilesSource source before.folder image →
     Drives image steps before.console after.console before.out after.out status → Runs source steps before after answer.status (named answer.name)
 unfolding Runs
-run_driven source steps before after status answer program certificate image is laws read found laid drives =
-    subst (λ a. Runs source steps before after a.status (named a.name)) (sym is) (
-      read,
-      inr (record {
-        program = program;
-        certificate = certificate;
-        source_is = found;
-        drives = subst (λ i. Drives i steps before.console after.console before.out after.out status) laid drives;
-        does = laws found.0 program certificate found.2.program_is found.2.least.valid;
-      }),
-    )
+run_driven source steps before after status answer image is read compiles drives =
+    subst (λ a. Runs source steps before after a.status (named a.name)) (sym is) (read, inr (record { image = image; compiles = compiles; drives = drives }))
 
 -- ---- certify
 
 pub certify_refused : (source : List ℕ) (before after : Surroundings) (status : Status) (name : List ℕ) →
-    IsReadOnce before.folder after.folder → IsRefusedSource source before.folder after.folder status name → after.console ≡ before.console → after.out ≡ before.out → Certifies source before after status name
+    IsOnlyRead 1 before.folder after.folder → IsRefusedSource source before.folder after.folder status name → after.console ≡ before.console → after.out ≡ before.out → Certifies source before after status name
 unfolding Certifies
 certify_refused source before after status name read refused console out = (read, console, inl (refused, out))
 
 pub certify_without_memory : (source : List ℕ) (before after : Surroundings) (name : List ℕ) →
-    IsReadOnce before.folder after.folder → after.console ≡ before.console → after.out ≡ before.out → Certifies source before after OutOfMemory name
+    IsOnlyRead 1 before.folder after.folder → after.console ≡ before.console → after.out ≡ before.out → Certifies source before after OutOfMemory name
 unfolding Certifies
 certify_without_memory source before after name read console out = (read, console, inl (tt, out))
 
 pub certify_written : (source : List ℕ) (before after : Surroundings) (status : Status) (name text : List ℕ) (program : SourceProgram) (certificate : Cert) →
-    IsReadOnce before.folder after.folder → IsCertifiedSource source before.folder program certificate → after.console ≡ before.console → text ≡ certificate_text program certificate →
+    IsOnlyRead 1 before.folder after.folder → IsCertifiedSource source before.folder program certificate → after.console ≡ before.console → text ≡ certificate_text program certificate →
     Writes before.out after.out text status → Certifies source before after status name
 unfolding Certifies
 certify_written source before after status name text program certificate read found console same writes = (
@@ -96,17 +117,17 @@ certify_written source before after status name text program certificate read fo
 -- ---- bound
 
 pub bound_refused : (source : List ℕ) (before after : Surroundings) (status : Status) (name : List ℕ) →
-    IsReadOnce before.folder after.folder → IsRefusedSource source before.folder after.folder status name → after.console ≡ before.console → after.out ≡ before.out → Bounds source before after status name
+    IsOnlyRead 1 before.folder after.folder → IsRefusedSource source before.folder after.folder status name → after.console ≡ before.console → after.out ≡ before.out → Bounds source before after status name
 unfolding Bounds
 bound_refused source before after status name read refused console out = (read, console, inl (refused, out))
 
 pub bound_without_memory : (source : List ℕ) (before after : Surroundings) (name : List ℕ) →
-    IsReadOnce before.folder after.folder → after.console ≡ before.console → after.out ≡ before.out → Bounds source before after OutOfMemory name
+    IsOnlyRead 1 before.folder after.folder → after.console ≡ before.console → after.out ≡ before.out → Bounds source before after OutOfMemory name
 unfolding Bounds
 bound_without_memory source before after name read console out = (read, console, inl (tt, out))
 
 pub bound_written : (source : List ℕ) (before after : Surroundings) (status : Status) (name : List ℕ) (program : SourceProgram) (certificate : Cert) (image : Content) (steps : ℕ) →
-    IsReadOnce before.folder after.folder → IsCertifiedSource source before.folder program certificate → after.console ≡ before.console → image ≡ image_of program →
+    IsOnlyRead 1 before.folder after.folder → IsCertifiedSource source before.folder program certificate → after.console ≡ before.console → image ≡ image_of program →
     step_bound program ≡ Bounded steps → EndsOnChip image steps → Writes before.out after.out (decimal steps ++ 10 ∷ []) status → Bounds source before after status name
 unfolding Bounds
 bound_written source before after status name program certificate image steps read found console laid bound ends writes = (
@@ -121,7 +142,7 @@ bound_written source before after status name program certificate image steps re
 )
 
 pub bound_none : (source : List ℕ) (before after : Surroundings) (name : List ℕ) (program : SourceProgram) (certificate : Cert) (id : DefId) (cause : BoundCause) →
-    IsReadOnce before.folder after.folder → IsCertifiedSource source before.folder program certificate → after.console ≡ before.console → after.out ≡ before.out →
+    IsOnlyRead 1 before.folder after.folder → IsCertifiedSource source before.folder program certificate → after.console ≡ before.console → after.out ≡ before.out →
     step_bound program ≡ Refused id.0 cause → name ≡ slice_index_or program.names id.0 [] → Bounds source before after (BoundRefused id cause) name
 unfolding Bounds
 bound_none source before after name program certificate id cause read found console out refused called = (
@@ -156,25 +177,46 @@ pub does_bound : (request : Option Request) (source : List ℕ) (before after : 
 unfolding Does
 does_bound request source before after status name asked bounds = subst (λ r. Does r before after status name) (sym asked) bounds
 
+pub does_build : (request : Option Request) (source file : List ℕ) (before after : Surroundings) (status : Status) (name : List ℕ) →
+    request ≡ Some (Build source file) → Builds source file before after status name → Does request before after status name
+unfolding Does
+does_build request source file before after status name asked builds = subst (λ r. Does r before after status name) (sym asked) builds
+
+pub does_execute : (request : Option Request) (file : List ℕ) (steps : Option ℕ) (before after : Surroundings) (status : Status) (answer : Answer) →
+    request ≡ Some (Execute file steps) → answer ≡ record { status = status; name = None } → Executes file (steps_allowed steps) before after status → Does request before after answer.status (named answer.name)
+unfolding Does
+does_execute request file steps before after status answer asked is executes =
+    subst (λ a. Does request before after a.status (named a.name)) (sym is) (subst (λ r. Does r before after status []) (sym asked) executes)
+
+pub does_list : (request : Option Request) (file : List ℕ) (before after : Surroundings) (status : Status) (answer : Answer) →
+    request ≡ Some (ListImage file) → answer ≡ record { status = status; name = None } → Lists file before after status → Does request before after answer.status (named answer.name)
+unfolding Does
+does_list request file before after status answer asked is lists =
+    subst (λ a. Does request before after a.status (named a.name)) (sym is) (subst (λ r. Does r before after status []) (sym asked) lists)
+
+pub does_assemble : (request : Option Request) (text file : List ℕ) (before after : Surroundings) (status : Status) (answer : Answer) →
+    request ≡ Some (Assemble text file) → answer ≡ record { status = status; name = None } → AssemblesFile text file before after status → Does request before after answer.status (named answer.name)
+unfolding Does
+does_assemble request text file before after status answer asked is assembles =
+    subst (λ a. Does request before after a.status (named a.name)) (sym is) (subst (λ r. Does r before after status []) (sym asked) assembles)
+
+pub does_make : (request : Option Request) (seed count steps : ℕ) (before after : Surroundings) (status : Status) (name : List ℕ) →
+    request ≡ Some (Make seed count) → steps ≡ steps_allowed None → Makes seed count steps before after status name → Does request before after status name
+unfolding Does
+does_make request seed count steps before after status name asked same makes =
+    subst (λ r. Does r before after status name) (sym asked) (subst (λ n. Makes seed count n before after status name) same makes)
+
 -- the commands that are not built
 abbrev is_unbuilt : Request → Bool
-is_unbuilt (Run source steps) = false
-is_unbuilt (Certify source) = false
-is_unbuilt (Bound source) = false
-is_unbuilt request = true
+is_unbuilt (Evaluate source steps) = true
+is_unbuilt (Forth steps) = true
+is_unbuilt request = false
 
 not_yet : (request : Request) (before : Surroundings) (name : List ℕ) → is_unbuilt request ≡ true → Does (Some request) before before NotYet name
 unfolding Does
-not_yet (Run source steps) before name unbuilt = absurd cc
-not_yet (Certify source) before name unbuilt = absurd cc
-not_yet (Bound source) before name unbuilt = absurd cc
-not_yet (Build source image) before name unbuilt = (refl, refl)
-not_yet (Execute image steps) before name unbuilt = (refl, refl)
-not_yet (ListImage image) before name unbuilt = (refl, refl)
-not_yet (Assemble listing image) before name unbuilt = (refl, refl)
 not_yet (Evaluate source steps) before name unbuilt = (refl, refl)
 not_yet (Forth steps) before name unbuilt = (refl, refl)
-not_yet (Make seed count) before name unbuilt = (refl, refl)
+not_yet request before name unbuilt = absurd cc
 
 pub does_not_yet : (asked : Option Request) (request : Request) (before : Surroundings) (answer : Answer) →
     asked ≡ Some request → is_unbuilt request ≡ true → answer ≡ record { status = NotYet; name = None } → Does asked before before answer.status (named answer.name)

@@ -16,12 +16,21 @@ use Rattle.depth_certifier.specs.declared.effect.CertCause.{CertCause}
 use Rattle.depth_certifier.specs.Certificate.{Cert, IsValid}
 use Rattle.depth_certifier.specs.Rounds.{Refusal, RoundsRefuse, ProperToken, RoundsEnd, RoundsFindTheLeast, RefusedHaveNone, OneRefusal}
 use Rattle.j1_workbench.specs.declared.status.Status.{Status}
-use Rattle.j1_workbench.specs.declared.status.Status.TheVariants.{Done, BadWords, Missing, SourceRefused, NotCertified, StepsUsed, InputEnded, Outside, Halted, ReadFault, WriteFault, OutOfMemory, TooLarge, NotYet, BoundRefused}
+use Rattle.j1_workbench.specs.declared.status.Status.TheVariants.{Done, BadWords, Missing, SourceRefused, NotCertified, StepsUsed, InputEnded, Outside, Halted, ReadFault, WriteFault, OutOfMemory, TooLarge, NotYet}
 use Rattle.j1_workbench.specs.Surroundings.{Stream, FolderState, Surroundings}
-use Rattle.j1_workbench.specs.Sources.{HoldsFile, HasCertificate, IsUncertified, IsRefusedText, IsRefusedSource}
-use Rattle.j1_workbench.specs.Running.{IsRunAnswer, Runs}
+use Rattle.j1_workbench.specs.Files.{Holds, IsWritten}
+use Rattle.j1_workbench.specs.Sources.{HasCertificate, IsUncertified, IsRefusedText, IsRefusedSource}
+use Rattle.j1_workbench.specs.Driving.{IsRunAnswer}
+use Rattle.j1_workbench.specs.Running.{Runs}
+use Rattle.j1_workbench.specs.Compiling.{CompilesSource}
 use Rattle.j1_workbench.specs.Certifying.{Writes, Certifies}
 use Rattle.j1_workbench.specs.Bounding.{WritesBound, HasNoBound, Bounds}
+use Rattle.j1_workbench.specs.Building.{Builds}
+use Rattle.j1_workbench.specs.MadeSource.{made_source}
+use Rattle.j1_workbench.specs.Making.{ThenWrites, Makes}
+use Rattle.j1_table.specs.Image.{Content}
+use Rattle.image_file.specs.Laws.{FilesAreImages}
+use Rattle.j1_workbench.proofs.FileCompleteness.{ImageFileLaws, TextLaws, told_text, not_missing, done_answer, run_answer, execute_complete, list_complete, assemble_complete, built_runs}
 use Rattle.j1_workbench.specs.Completeness.{Tells, FailsNowhere, IsComplete, IsBoundAnswer, IsAnswerOfText, IsJudged, AnswersAreComplete}
 
 -- ---- a text has one outcome
@@ -42,17 +51,7 @@ by_kind P text TooLarge name refused long faulty uncertified unbuilt = long refu
 by_kind P text (SourceRefused refusal) name refused long faulty uncertified unbuilt = faulty refusal refused.0 refused.1
 by_kind P text (NotCertified id cause) name refused long faulty uncertified unbuilt = uncertified id cause refused
 by_kind P text NotYet name refused long faulty uncertified unbuilt = unbuilt refused.0 refused.1
-by_kind P text Done name refused long faulty uncertified unbuilt = absurd refused
-by_kind P text BadWords name refused long faulty uncertified unbuilt = absurd refused
-by_kind P text Missing name refused long faulty uncertified unbuilt = absurd refused
-by_kind P text StepsUsed name refused long faulty uncertified unbuilt = absurd refused
-by_kind P text InputEnded name refused long faulty uncertified unbuilt = absurd refused
-by_kind P text (Outside address) name refused long faulty uncertified unbuilt = absurd refused
-by_kind P text (Halted number) name refused long faulty uncertified unbuilt = absurd refused
-by_kind P text ReadFault name refused long faulty uncertified unbuilt = absurd refused
-by_kind P text WriteFault name refused long faulty uncertified unbuilt = absurd refused
-by_kind P text OutOfMemory name refused long faulty uncertified unbuilt = absurd refused
-by_kind P text (BoundRefused id cause) name refused long faulty uncertified unbuilt = absurd refused
+by_kind P text status name refused long faulty uncertified unbuilt = absurd refused
 
 refused_not_certified : (text : List ℕ) (status : Status) (name : List ℕ) (p : SourceProgram) (z : Cert) → IsRefusedText text status name → HasCertificate text p z → ⊥
 refused_not_certified text status name p z refused c =
@@ -96,35 +95,16 @@ one_refusal one text status other name called first second =
 
 -- ---- what a command finds in a file that is told
 
-told_text : (files : Option Files) (source text other : List ℕ) → Tells files source text → HoldsFile files source other → other ≡ text
-told_text None source text other told holds = absurd told
-told_text (Some files) source text other told holds = let e : Some other ≡ Some text = sym holds ∙ told in cc
-
 refused_text : (source text : List ℕ) (before : FolderState) (status : Status) (name : List ℕ) → Tells before.files source text →
-    (other : List ℕ) × HoldsFile before.files source other × IsRefusedText other status name → (status ≡ OutOfMemory) ⊎ IsRefusedText text status name
+    (other : List ℕ) × Holds before.files source other × IsRefusedText other status name → (status ≡ OutOfMemory) ⊎ IsRefusedText text status name
 refused_text source text before status name told found = inr (subst (λ t. IsRefusedText t status name) (told_text before.files source text found.0 told found.1) found.2)
-
-not_missing : (files : Option Files) (source text : List ℕ) → Tells files source text → Lacks files source → ⊥
-not_missing None source text told lacks = told
-not_missing (Some files) source text told lacks = let e : Some text ≡ None = sym told ∙ lacks in cc
 
 refused_source : (source text : List ℕ) (before after : FolderState) (status : Status) (name : List ℕ) → Tells before.files source text → (Rose before.read_faults after.read_faults → ⊥) →
     IsRefusedSource source before after status name → (status ≡ OutOfMemory) ⊎ IsRefusedText text status name
 refused_source source text before after Missing name told calm refused = absurd (not_missing before.files source text told refused.1)
 refused_source source text before after ReadFault name told calm refused = absurd (calm refused)
 refused_source source text before after OutOfMemory name told calm refused = inl refl
-refused_source source text before after TooLarge name told calm refused = refused_text source text before TooLarge name told refused
-refused_source source text before after (SourceRefused refusal) name told calm refused = refused_text source text before (SourceRefused refusal) name told refused
-refused_source source text before after (NotCertified id cause) name told calm refused = refused_text source text before (NotCertified id cause) name told refused
-refused_source source text before after NotYet name told calm refused = refused_text source text before NotYet name told refused
-refused_source source text before after Done name told calm refused = refused_text source text before Done name told refused
-refused_source source text before after BadWords name told calm refused = refused_text source text before BadWords name told refused
-refused_source source text before after StepsUsed name told calm refused = refused_text source text before StepsUsed name told refused
-refused_source source text before after InputEnded name told calm refused = refused_text source text before InputEnded name told refused
-refused_source source text before after (Outside address) name told calm refused = refused_text source text before (Outside address) name told refused
-refused_source source text before after (Halted number) name told calm refused = refused_text source text before (Halted number) name told refused
-refused_source source text before after WriteFault name told calm refused = refused_text source text before WriteFault name told refused
-refused_source source text before after (BoundRefused id cause) name told calm refused = refused_text source text before (BoundRefused id cause) name told refused
+refused_source source text before after status name told calm refused = refused_text source text before status name told refused
 
 -- a refused text and a certified one
 by_refusal : OneRefusal → (text : List ℕ) (status : Status) (name : List ℕ) (IsAnswer : Status → Type 0) → (status ≡ OutOfMemory) ⊎ IsRefusedText text status name → IsComplete text status IsAnswer
@@ -140,12 +120,12 @@ by_certificate text status IsAnswer p z found answer = record {
   certified = λ q y c. inr answer;
 }
 
--- ---- the commands
+by_source : (source text : List ℕ) (before : FolderState) (status : Status) (IsAnswer : Status → Type 0) (image : Content) → Tells before.files source text →
+    CompilesSource source before image → IsAnswer status → IsComplete text status IsAnswer
+by_source source text before status IsAnswer image told c answer =
+    by_certificate text status IsAnswer c.program c.certificate (subst (λ t. HasCertificate t c.program c.certificate) (told_text before.files source text c.source_is.0 told c.source_is.1) c.source_is.2) answer
 
-run_answer : (status : Status) (P Q : Type 0) → (status ≡ ReadFault) ⊎ ((status ≡ WriteFault) ⊎ IsRunAnswer status) → (status ≡ ReadFault → P) → (status ≡ WriteFault → Q) → (P → ⊥) → (Q → ⊥) → IsRunAnswer status
-run_answer status P Q (inl e) read write no_read no_write = absurd (no_read (read e))
-run_answer status P Q (inr (inl e)) read write no_read no_write = absurd (no_write (write e))
-run_answer status P Q (inr (inr answer)) read write no_read no_write = answer
+-- ---- the commands
 
 run_complete : OneRefusal → (source text : List ℕ) (steps : ℕ) (before after : Surroundings) (status : Status) (name : List ℕ) →
     Runs source steps before after status name → Tells before.folder.files source text → FailsNowhere before after → IsComplete text status IsRunAnswer
@@ -153,26 +133,8 @@ unfolding Runs
 run_complete one source text steps before after status name (read, inl refused) told calm =
     by_refusal one text status name IsRunAnswer (refused_source source text before.folder after.folder status name told calm.folder refused.0)
 run_complete one source text steps before after status name (read, inr ran) told calm =
-    by_certificate text status IsRunAnswer ran.program ran.certificate
-    (subst (λ t. HasCertificate t ran.program ran.certificate) (told_text before.folder.files source text ran.source_is.0 told ran.source_is.1) ran.source_is.2)
+    by_source source text before.folder status IsRunAnswer ran.image told ran.compiles
     (run_answer status _ _ ran.drives.answered ran.drives.read_fault ran.drives.write_fault calm.console calm.out)
-
-done_answer : (program_text : List ℕ) (before after : Stream) (status : Status) → Writes before after program_text status → (Rose before.faults after.faults → ⊥) → status ≡ Done
-done_answer t before after Done writes calm = refl
-done_answer t before after WriteFault writes calm = absurd (calm writes.1)
-done_answer t before after BadWords writes calm = absurd writes
-done_answer t before after Missing writes calm = absurd writes
-done_answer t before after (SourceRefused refusal) writes calm = absurd writes
-done_answer t before after (NotCertified id cause) writes calm = absurd writes
-done_answer t before after StepsUsed writes calm = absurd writes
-done_answer t before after InputEnded writes calm = absurd writes
-done_answer t before after (Outside address) writes calm = absurd writes
-done_answer t before after (Halted number) writes calm = absurd writes
-done_answer t before after ReadFault writes calm = absurd writes
-done_answer t before after OutOfMemory writes calm = absurd writes
-done_answer t before after TooLarge writes calm = absurd writes
-done_answer t before after NotYet writes calm = absurd writes
-done_answer t before after (BoundRefused id cause) writes calm = absurd writes
 
 certify_complete : OneRefusal → (source text : List ℕ) (before after : Surroundings) (status : Status) (name : List ℕ) →
     Certifies source before after status name → Tells before.folder.files source text → FailsNowhere before after → IsComplete text status (λ s. s ≡ Done)
@@ -199,6 +161,44 @@ bound_complete one source text before after status name (read, console, inr boun
     let found = subst (λ t. HasCertificate t bounds.program bounds.certificate) (told_text before.folder.files source text bounds.source_is.0 told bounds.source_is.1) bounds.source_is.2 in
     by_certificate text status (IsAnswerOfText text) bounds.program bounds.certificate found
     (bounds.program, found.program_is, bound_answer bounds.program before.out after.out status name bounds.answers calm.out)
+
+done_write : (name content : List ℕ) (before after : FolderState) (status : Status) → IsWritten 2 name content before after status → (Rose before.write_faults after.write_faults → ⊥) → status ≡ Done
+done_write name content before after status wrote calm = elim wrote.written [ inl done ↦ done.0 | inr failed ↦ absurd (calm failed.1) ]
+
+build_complete : OneRefusal → (source file text : List ℕ) (before after : Surroundings) (status : Status) (name : List ℕ) →
+    Builds source file before after status name → Tells before.folder.files source text → FailsNowhere before after → (Rose before.folder.write_faults after.folder.write_faults → ⊥) → IsComplete text status (λ s. s ≡ Done)
+unfolding Builds
+build_complete one source file text before after status name (quiet, inl refused) told calm writes =
+    by_refusal one text status name (λ s. s ≡ Done) (refused_source source text before.folder after.folder status name told calm.folder refused.1)
+build_complete one source file text before after status name (quiet, inr wrote) told calm writes =
+    by_source source text before.folder status (λ s. s ≡ Done) wrote.image told wrote.compiles (done_write file _ before.folder after.folder status wrote.written writes)
+
+risen_later : (a b c : ℕ) → a ≤ b → Rose b c → Rose a c
+risen_later a b c h r = omega (arith, r)
+
+no_read_fault : Rose 0 0 → ⊥
+no_read_fault rose = omega (arith, rose)
+
+summed : (middle after : Stream) (text : List ℕ) (status : Status) (before : ℕ) → before ≤ middle.faults → Writes middle after text status → (Rose before after.faults → ⊥) → IsRunAnswer status
+summed middle after text Done before less writes calm = tt
+summed middle after text WriteFault before less writes calm = absurd (calm (risen_later before middle.faults after.faults less writes.1))
+summed middle after text status before less writes calm = absurd writes
+
+-- the answer behind a run without input
+made_answer : (ran status : Status) (before middle after : Stream) (text : List ℕ) → before.faults ≤ middle.faults → (ran ≡ ReadFault → ⊥) →
+    (ran ≡ WriteFault → Rose before.faults middle.faults) → (ran ≡ ReadFault) ⊎ ((ran ≡ WriteFault) ⊎ IsRunAnswer ran) →
+    ThenWrites ran middle after text status → (Rose before.faults after.faults → ⊥) → IsRunAnswer status
+made_answer Done status before middle after text less read write answered writes calm = summed middle after text status before.faults less writes calm
+made_answer ran status before middle after text less read write answered same calm =
+    subst IsRunAnswer (sym same.0) (run_answer ran _ _ answered read write (λ none. none) (λ rose. calm (subst (λ s. Rose before.faults s.faults) (sym same.1) rose)))
+
+make_complete : OneRefusal → (seed count steps : ℕ) (before after : Surroundings) (status : Status) (name : List ℕ) →
+    Makes seed count steps before after status name → FailsNowhere before after → IsComplete (made_source seed count) status IsRunAnswer
+unfolding Makes
+make_complete one seed count steps before after status name (folder, console, inl refused) calm = by_refusal one (made_source seed count) status name IsRunAnswer refused.0
+make_complete one seed count steps before after status name (folder, console, inr ran) calm =
+    by_certificate (made_source seed count) status IsRunAnswer ran.program ran.certificate ran.certified
+    (made_answer ran.ran status before.out ran.middle after.out _ ran.drives.out_faults (λ e. no_read_fault (ran.drives.read_fault e)) ran.drives.write_fault ran.drives.answered ran.sums_up calm.out)
 
 -- ---- each text is judged
 
@@ -229,10 +229,16 @@ judged each sources end least none text =
       | false ↦ λ long. inl (TooLarge, [], grind (arith, nat_tests))
     ] refl
 
-pub complete : EachIsJudged → EachProgramIsSource → RoundsEnd → RoundsFindTheLeast → RefusedHaveNone → OneRefusal → AnswersAreComplete
-complete each sources end least none one = record {
+pub complete : EachIsJudged → EachProgramIsSource → RoundsEnd → RoundsFindTheLeast → RefusedHaveNone → OneRefusal → ImageFileLaws → TextLaws → FilesAreImages → AnswersAreComplete
+complete each sources end least none one files texts same = record {
   each = judged each sources end least none;
   run = run_complete one;
   certify = certify_complete one;
   bound = bound_complete one;
+  build = build_complete one;
+  make = make_complete one;
+  execute = execute_complete files;
+  list = list_complete files;
+  assemble = assemble_complete texts;
+  built = λ file steps before after status image fits told ran. built_runs file steps before after status image same told ran;
 }

@@ -1,8 +1,12 @@
 mod SinkContents
 mod Digits
-mod DriveResult
-mod Files
+mod Drives
+mod FilesRead
 mod Commands
+mod FileCommands
+mod Makes
+mod Made
 mod Built
 mod Headline
+mod FileCompleteness
 mod Completeness

@@ -5,20 +5,30 @@ use Rattle.outside_io.specs.Bytes.{AppendsFront}
 use Rattle.outside_io.specs.Causes.{Rose}
 use Rattle.j1_workbench.specs.declared.status.Status.{Status}
 use Rattle.j1_workbench.specs.declared.status.Status.TheVariants.{Done, BadWords, WriteFault, NotYet}
-use Rattle.j1_workbench.specs.Words.{Request, Run, Certify, Bound, request_of, steps_allowed}
+use Rattle.j1_workbench.specs.Words.{Request, Run, Build, Execute, ListImage, Assemble, Certify, Bound, Make, request_of, steps_allowed}
 use Rattle.j1_workbench.specs.Notes.{note_of}
 use Rattle.j1_workbench.specs.Surroundings.{Stream, Surroundings}
 use Rattle.j1_workbench.specs.Running.{Runs}
+use Rattle.j1_workbench.specs.Building.{Builds}
+use Rattle.j1_workbench.specs.Executing.{Executes}
+use Rattle.j1_workbench.specs.ListingImage.{Lists}
+use Rattle.j1_workbench.specs.Assembling.{AssemblesFile}
 use Rattle.j1_workbench.specs.Certifying.{Certifies}
 use Rattle.j1_workbench.specs.Bounding.{Bounds}
+use Rattle.j1_workbench.specs.Making.{Makes}
 
 -- what each command does and answers, its note aside, which may name a definition. Words without the form of a command, and commands
 -- that are not built, leave everything as it was
 unfoldable pub Does : Option Request → Surroundings → Surroundings → Status → List ℕ → Type 0
 Does None before after status name = (status ≡ BadWords) × (after ≡ before)
 Does (Some (Run source steps)) before after status name = Runs source (steps_allowed steps) before after status name
+Does (Some (Build source image)) before after status name = Builds source image before after status name
+Does (Some (Execute image steps)) before after status name = Executes image (steps_allowed steps) before after status
+Does (Some (ListImage image)) before after status name = Lists image before after status
+Does (Some (Assemble listing image)) before after status name = AssemblesFile listing image before after status
 Does (Some (Certify source)) before after status name = Certifies source before after status name
 Does (Some (Bound source)) before after status name = Bounds source before after status name
+Does (Some (Make seed count)) before after status name = Makes seed count (steps_allowed None) before after status name
 Does (Some request) before after status name = (status ≡ NotYet) × (after ≡ before)
 
 -- the notes gain this line, and the answer stands. Where they can't be written, they gain a beginning of it, and the answer is

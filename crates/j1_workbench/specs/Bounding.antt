@@ -8,7 +8,7 @@ use Rattle.step_certifier.specs.Bound.{Bounded, Refused, step_bound}
 use Rattle.step_certifier.specs.Law.{EndsOnChip}
 use Rattle.j1_workbench.specs.declared.status.Status.{Status}
 use Rattle.j1_workbench.specs.declared.status.Status.TheVariants.{BoundRefused}
-use Rattle.j1_workbench.specs.Surroundings.{Stream, Surroundings, IsReadOnce}
+use Rattle.j1_workbench.specs.Surroundings.{Stream, Surroundings, IsOnlyRead}
 use Rattle.j1_workbench.specs.Sources.{IsRefusedSource, IsCertifiedSource}
 use Rattle.j1_workbench.specs.Headline.{image_of}
 use Rattle.j1_workbench.specs.Certifying.{Writes}
@@ -38,5 +38,5 @@ pub record BoundsProgram (source : List ℕ) (before after : Surroundings) (stat
 -- `bound`: a refused source leaves out alone; the console is never asked, and nothing is driven
 unfoldable pub Bounds : List ℕ → Surroundings → Surroundings → Status → List ℕ → Type 0
 Bounds source before after status name =
-    IsReadOnce before.folder after.folder × (after.console ≡ before.console)
+    IsOnlyRead 1 before.folder after.folder × (after.console ≡ before.console)
     × ((IsRefusedSource source before.folder after.folder status name × (after.out ≡ before.out)) ⊎ BoundsProgram source before after status name)

@@ -8,7 +8,7 @@ use Rattle.depth_certifier.specs.Certificate.{Cert}
 use Rattle.depth_certifier.specs.CertificateText.{certificate_text}
 use Rattle.j1_workbench.specs.declared.status.Status.{Status}
 use Rattle.j1_workbench.specs.declared.status.Status.TheVariants.{Done, WriteFault}
-use Rattle.j1_workbench.specs.Surroundings.{Stream, Surroundings, IsReadOnce}
+use Rattle.j1_workbench.specs.Surroundings.{Stream, Surroundings, IsOnlyRead}
 use Rattle.j1_workbench.specs.Sources.{IsRefusedSource, IsCertifiedSource}
 
 -- a text was written to out, or a beginning of it where the write failed
@@ -26,5 +26,5 @@ pub record WritesCertificate (source : List ℕ) (before after : Surroundings) (
 -- `certify`: a refused source leaves out alone; the console is never asked
 unfoldable pub Certifies : List ℕ → Surroundings → Surroundings → Status → List ℕ → Type 0
 Certifies source before after status name =
-    IsReadOnce before.folder after.folder × (after.console ≡ before.console)
+    IsOnlyRead 1 before.folder after.folder × (after.console ≡ before.console)
     × ((IsRefusedSource source before.folder after.folder status name × (after.out ≡ before.out)) ⊎ WritesCertificate source before after status)

@@ -1,5 +1,5 @@
 -- What is left where nothing outside fails: each source has its one answer.
-use Rattle.std.specs.Prelude.{◌≡◌, ◌⊎◌, ℕ, List, Option, None, Some}
+use Rattle.std.specs.Prelude.{◌≡◌, ◌<◌, ◌≤◌, ◌⊎◌, ℕ, List, length, Option, None, Some}
 use Rattle.outside_io.specs.Causes.{Rose}
 use Rattle.outside_io.specs.Files.{Files}
 use Rattle.forth_program.specs.Program.{SourceProgram}
@@ -8,10 +8,21 @@ use Rattle.control_flow.specs.SourceText.{program_of_text}
 use Rattle.depth_certifier.specs.Certificate.{Cert}
 use Rattle.j1_workbench.specs.declared.status.Status.{Status}
 use Rattle.step_certifier.specs.Bound.{Bounded, Refused, step_bound}
-use Rattle.j1_workbench.specs.declared.status.Status.TheVariants.{Done, OutOfMemory, BoundRefused}
+use Rattle.j1_workbench.specs.declared.status.Status.TheVariants.{Done, OutOfMemory, TooLarge, BoundRefused}
 use Rattle.j1_workbench.specs.Surroundings.{Surroundings}
 use Rattle.j1_workbench.specs.Sources.{HasCertificate, IsRefusedText}
-use Rattle.j1_workbench.specs.Running.{IsRunAnswer, Runs}
+use Rattle.j1_table.specs.Image.{Content}
+use Rattle.image_file.specs.File.{IsImage, IsFile, image_bytes}
+use Rattle.j1_assembler.specs.Grammar.{Assembles}
+use Rattle.j1_workbench.specs.Driving.{IsRunAnswer, Drives}
+use Rattle.j1_workbench.specs.Building.{Builds}
+use Rattle.j1_workbench.specs.Images.{IsBadImage}
+use Rattle.j1_workbench.specs.Executing.{RunsImage, Executes}
+use Rattle.j1_workbench.specs.ListingImage.{Lists}
+use Rattle.j1_workbench.specs.MadeSource.{made_source}
+use Rattle.j1_workbench.specs.Making.{Makes}
+use Rattle.j1_workbench.specs.Assembling.{IsBadListing, AssemblesFile}
+use Rattle.j1_workbench.specs.Running.{Runs}
 use Rattle.j1_workbench.specs.Certifying.{Certifies}
 use Rattle.j1_workbench.specs.Bounding.{Bounds}
 
@@ -40,6 +51,12 @@ IsBoundAnswer program status = ⊥
 abbrev pub IsAnswerOfText : List ℕ → Status → Type 0
 IsAnswerOfText text status = (program : SourceProgram) × (program_of_text text ≡ Fine program) × IsBoundAnswer program status
 
+-- what is in a file is too large, refused or good: each has its one answer, want of memory aside
+pub record IsCompleteFile (most : ℕ) (IsBad : List ℕ → Status → Type 0) (IsGood : List ℕ → Type 0) (content : List ℕ) (status : Status) (IsAnswer : Status → Type 0) : Type 0 where
+  pub too_large : most < length content → (status ≡ OutOfMemory) ⊎ (status ≡ TooLarge)
+  pub refused : (refusal : Status) → length content ≤ most → IsBad content refusal → (status ≡ OutOfMemory) ⊎ (status ≡ refusal)
+  pub good : length content ≤ most → IsGood content → (status ≡ OutOfMemory) ⊎ IsAnswer status
+
 -- a text is refused, or certified
 abbrev pub IsJudged : List ℕ → Type 0
 IsJudged text = ((refusal : Status) × (name : List ℕ) × IsRefusedText text refusal name) ⊎ ((program : SourceProgram) × (certificate : Cert) × HasCertificate text program certificate)
@@ -52,3 +69,19 @@ pub record AnswersAreComplete : Type 0 where
       Certifies source before after status name → Tells before.folder.files source text → FailsNowhere before after → IsComplete text status (λ s. s ≡ Done)
   pub bound : (source text : List ℕ) (before after : Surroundings) (status : Status) (name : List ℕ) →
       Bounds source before after status name → Tells before.folder.files source text → FailsNowhere before after → IsComplete text status (IsAnswerOfText text)
+  -- where the write of the folder did not fail either
+  pub build : (source file text : List ℕ) (before after : Surroundings) (status : Status) (name : List ℕ) →
+      Builds source file before after status name → Tells before.folder.files source text → FailsNowhere before after → (Rose before.folder.write_faults after.folder.write_faults → ⊥) → IsComplete text status (λ s. s ≡ Done)
+  pub execute : (file content : List ℕ) (steps : ℕ) (before after : Surroundings) (status : Status) →
+      Executes file steps before after status → Tells before.folder.files file content → FailsNowhere before after → IsCompleteFile 32768 IsBadImage IsFile content status IsRunAnswer
+  pub list : (file content : List ℕ) (before after : Surroundings) (status : Status) →
+      Lists file before after status → Tells before.folder.files file content → FailsNowhere before after → IsCompleteFile 32768 IsBadImage IsFile content status (λ s. s ≡ Done)
+  pub assemble : (listing file text : List ℕ) (before after : Surroundings) (status : Status) →
+      AssemblesFile listing file before after status → Tells before.folder.files listing text → FailsNowhere before after → (Rose before.folder.write_faults after.folder.write_faults → ⊥) →
+      IsCompleteFile 524288 IsBadListing (λ text. (image : Content) × Assembles text image) text status (λ s. s ≡ Done)
+  -- the made source has the answer of a source
+  pub make : (seed count steps : ℕ) (before after : Surroundings) (status : Status) (name : List ℕ) →
+      Makes seed count steps before after status name → FailsNowhere before after → IsComplete (made_source seed count) status IsRunAnswer
+  -- a file that holds the bytes of an image, as `build` writes them, is run as that image: so `exec` does what `run` does
+  pub built : (file : List ℕ) (steps : ℕ) (before after : Surroundings) (status : Status) (image : Content) →
+      IsImage image → Tells before.folder.files file (image_bytes image) → RunsImage file steps before after status → Drives image steps before.console after.console before.out after.out status

@@ -7,7 +7,7 @@ use Rattle.depth_certifier.specs.declared.effect.CertCause.TheVariants as certif
 use Rattle.step_certifier.specs.declared.bound.BoundCause.{BoundCause}
 use Rattle.step_certifier.specs.declared.bound.BoundCause.TheVariants as bound
 use Rattle.j1_workbench.specs.declared.status.Status.{Status}
-use Rattle.j1_workbench.specs.declared.status.Status.TheVariants.{Done, BadWords, Missing, SourceRefused, NotCertified, StepsUsed, InputEnded, Outside, Halted, ReadFault, WriteFault, OutOfMemory, TooLarge, NotYet, BoundRefused}
+use Rattle.j1_workbench.specs.declared.status.Status.TheVariants.{Done, BadWords, Missing, SourceRefused, NotCertified, StepsUsed, InputEnded, Outside, Halted, ReadFault, WriteFault, OutOfMemory, TooLarge, NotYet, BadImage, BadListing, BoundRefused}
 
 -- the file that is read: the word behind the command
 abbrev pub file_named : List (List ℕ) → List ℕ
@@ -70,6 +70,8 @@ note_of words BadWords name = line (codes "bad words" ∷ [])
 note_of words Missing name = line (file_named words ∷ codes ": missing" ∷ [])
 note_of words (SourceRefused refusal) name = line (codes "source token " ∷ decimal refusal.token ∷ codes ": " ∷ cause_named refusal.cause ∷ [])
 note_of words (NotCertified id cause) name = line (name ∷ uncertified cause ∷ [])
+note_of words (BadImage offset) name = line (codes "image byte " ∷ decimal offset ∷ [])
+note_of words (BadListing number) name = line (codes "listing line " ∷ decimal number ∷ [])
 note_of words StepsUsed name = line (codes "steps used" ∷ [])
 note_of words InputEnded name = line (codes "input ended" ∷ [])
 note_of words (Outside address) name = line (codes "outside " ∷ decimal address ∷ [])

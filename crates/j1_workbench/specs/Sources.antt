@@ -1,7 +1,7 @@
 -- What becomes of a source file before a command works on its program.
-use Rattle.std.specs.Prelude.{◌≡◌, ◌<◌, ◌≤◌, ℕ, List, [], length, slice_index_or, Option, None, Some, ⊤}
+use Rattle.std.specs.Prelude.{◌≡◌, ◌<◌, ◌≤◌, ℕ, List, [], length, slice_index_or, ⊤}
 use Rattle.outside_io.specs.Causes.{Rose}
-use Rattle.outside_io.specs.Files.{Files, Lacks}
+use Rattle.outside_io.specs.Files.{Lacks}
 use Rattle.forth_program.specs.Program.{SourceProgram}
 use Rattle.control_flow.specs.ParseResult.{Fine, Refused, NotBuilt}
 use Rattle.control_flow.specs.SourceText.{program_of_text}
@@ -11,11 +11,7 @@ use Rattle.depth_certifier.specs.Rounds.{IsLeast, RoundsRefuse}
 use Rattle.j1_workbench.specs.declared.status.Status.{Status}
 use Rattle.j1_workbench.specs.declared.status.Status.TheVariants.{Missing, SourceRefused, NotCertified, ReadFault, OutOfMemory, TooLarge, NotYet}
 use Rattle.j1_workbench.specs.Surroundings.{FolderState}
-
--- the file has this content, where the folder tells its files
-abbrev pub HoldsFile : Option Files → List ℕ → List ℕ → Type 0
-HoldsFile None name content = ⊤
-HoldsFile (Some files) name content = files name ≡ Some content
+use Rattle.j1_workbench.specs.Files.{Holds}
 
 -- a source has at most 65,536 bytes
 abbrev pub IsShort : List ℕ → Type 0

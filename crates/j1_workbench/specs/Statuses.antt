@@ -1,7 +1,7 @@
 -- The number of each status, and the status of a run's end.
 use Rattle.std.specs.Prelude.{ℕ, zero, suc, Option, Some, None}
 use Rattle.j1_workbench.specs.declared.status.Status.{Status}
-use Rattle.j1_workbench.specs.declared.status.Status.TheVariants.{Done, BadWords, Missing, SourceRefused, NotCertified, StepsUsed, InputEnded, Outside, Halted, ReadFault, WriteFault, OutOfMemory, TooLarge, NotYet, BoundRefused}
+use Rattle.j1_workbench.specs.declared.status.Status.TheVariants.{Done, BadWords, Missing, SourceRefused, NotCertified, StepsUsed, InputEnded, Outside, Halted, ReadFault, WriteFault, OutOfMemory, TooLarge, NotYet, BadImage, BadListing, BoundRefused}
 use Rattle.j1_simulator.specs.declared.ends.End.{End}
 use Rattle.j1_simulator.specs.declared.ends.End.TheVariants as ends
 
@@ -11,6 +11,8 @@ number_of BadWords = 1
 number_of Missing = 2
 number_of (SourceRefused refusal) = 3
 number_of (NotCertified id cause) = 4
+number_of (BadImage offset) = 5
+number_of (BadListing line) = 5
 number_of StepsUsed = 6
 number_of InputEnded = 7
 number_of (Outside address) = 8

@@ -1,6 +1,5 @@
 -- What a call of the workbench finds and leaves outside: what each object tells of its bytes, and how often it was called and failed.
-use Rattle.std.specs.Prelude.{◌≡◌, ◌≤◌, ℕ, List, Option}
-use Rattle.outside_io.specs.Causes.{risen}
+use Rattle.std.specs.Prelude.{◌≡◌, ◌+◌, ◌≤◌, ℕ, List, Option}
 use Rattle.outside_io.specs.Files.{Files, KeepsFiles}
 
 -- a stream: the bytes that are left to be read, or that were written to it, where it tells them; and its counts of calls
@@ -34,10 +33,14 @@ folder files calls read_faults write_faults absences =
 abbrev pub surroundings : FolderState → Stream → Stream → Surroundings
 surroundings folder console out = record { folder = folder; console = console; out = out }
 
--- a folder that was read once and not written: its files are the same, and no count fell
-pub record IsReadOnce (before after : FolderState) : Type 0 where
+-- a folder that was called at most so many times and not written: its files are the same, no write failed, and no count fell
+pub record IsOnlyRead (most : ℕ) (before after : FolderState) : Type 0 where
   pub files : KeepsFiles before.files after.files
-  pub calls : after.calls ≡ risen before.calls
+  pub calls : after.calls ≤ before.calls + most
   pub read_faults : before.read_faults ≤ after.read_faults
   pub write_faults : after.write_faults ≡ before.write_faults
   pub absences : before.absences ≤ after.absences
+
+-- nothing was asked for, and nothing printed
+abbrev pub IsQuiet : Surroundings → Surroundings → Type 0
+IsQuiet before after = (after.console ≡ before.console) × (after.out ≡ before.out)

@@ -6,8 +6,13 @@ ghost use Rattle.j1_workbench.specs.Surroundings.{folder, stream, surroundings};
 ghost use Rattle.j1_workbench.specs.Answers.{Does};
 
 use crate::answer::{Answer, answered};
+use crate::assembling::assemble_file;
 use crate::bounding::bound;
+use crate::building::build;
 use crate::certifying::certify;
+use crate::executing::execute;
+use crate::listing_image::list;
+use crate::making::make;
 use crate::running::run;
 use crate::status::Status;
 use crate::words::{Command, command_of};
@@ -26,7 +31,7 @@ fn steps_allowed(steps: Option<u32>) -> u64
 }
 
 /// Does what the words of a command line ask for, but for the note.
-#[tactic(auto, using(crate::proofs::Commands::does_nothing, crate::proofs::Commands::does_run, crate::proofs::Commands::does_certify, crate::proofs::Commands::does_bound, crate::proofs::Commands::does_not_yet))]
+#[tactic(auto, using(crate::proofs::Commands::does_nothing, crate::proofs::Commands::does_run, crate::proofs::Commands::does_certify, crate::proofs::Commands::does_bound, crate::proofs::Commands::does_execute, crate::proofs::Commands::does_not_yet))]
 pub fn answer<F: Folder, C: Source, O: Sink>(
     alloc: Global,
     words: &[String],
@@ -47,12 +52,19 @@ pub fn answer<F: Folder, C: Source, O: Sink>(
         }
         Some(Command::Certify { source }) => certify(alloc, source, files, out),
         Some(Command::Bound { source }) => bound(alloc, source, files, out),
-        Some(Command::Build { .. }) => answered(Status::NotYet),
-        Some(Command::Execute { .. }) => answered(Status::NotYet),
-        Some(Command::ListImage { .. }) => answered(Status::NotYet),
-        Some(Command::Assemble { .. }) => answered(Status::NotYet),
+        Some(Command::Build { source, image }) => build(alloc, source, image, files),
+        Some(Command::Execute { image, steps }) => {
+            let steps = steps_allowed(steps);
+            answered(execute(alloc, image, steps, files, console, out))
+        }
+        Some(Command::ListImage { image }) => answered(list(alloc, image, files, out)),
+        Some(Command::Assemble { listing, image }) => {
+            answered(assemble_file(alloc, listing, image, files))
+        }
         Some(Command::Evaluate { .. }) => answered(Status::NotYet),
         Some(Command::Forth { .. }) => answered(Status::NotYet),
-        Some(Command::Make { .. }) => answered(Status::NotYet),
+        Some(Command::Make { seed, count }) => {
+            make(alloc, seed, count, steps_allowed(None), out)
+        }
     }
 }

@@ -11,8 +11,8 @@ use depth_certifier::certificate_text;
 use outside_io::{Failed, Folder, Sink};
 use std::alloc::{AllocError, Global};
 
-// Writes a text to out.
-fn write_text<O: Sink>(text: &[u8], out: &mut O) -> Status
+/// Writes a text to out.
+pub fn write_text<O: Sink>(text: &[u8], out: &mut O) -> Status
     ensures { Writes (stream (O.held out.old) (O.calls out.old) (O.faults out.old)) (stream (O.held out.new) (O.calls out.new) (O.faults out.new)) text.now result }
 {
     match out.write(text) {

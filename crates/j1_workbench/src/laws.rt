@@ -7,6 +7,8 @@ use code_layout::{code_is_light, last_calls_are_jumps};
 use control_flow::{programs_are_sources, tests_widen, texts_are_judged};
 use depth_certifier::rounds_judge;
 use forth_library::library_means;
+use image_file::{bytes_have_one_first_bad, files_are_images, refused_is_no_file};
+use j1_assembler::{assembles_by_grammar, refuses_first_bad};
 
 /// The program of each text can be laid out.
 pub fn texts_are_built()
@@ -30,12 +32,18 @@ pub fn certified_texts_agree()
     last_calls_are_jumps();
 }
 
-/// Each source has its one answer, want of memory aside: where the folder tells the file, and no read and no write failed, `run`
-/// answers by the run of a certified source and `certify` answers Done, or the call gives the one refusal that the source has.
+/// Each file has its one answer, want of memory aside: where the folder tells it, and no read and no write failed, `run` and `exec`
+/// answer by the run of the image, and `build`, `list`, `asm` and `certify` answer Done, or the call gives the one refusal that the
+/// file has.
 pub fn answers_are_complete()
     ensures { AnswersAreComplete }
 {
     texts_are_judged();
     programs_are_sources();
     rounds_judge();
+    files_are_images();
+    refused_is_no_file();
+    bytes_have_one_first_bad();
+    assembles_by_grammar();
+    refuses_first_bad();
 }

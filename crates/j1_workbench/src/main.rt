@@ -3,9 +3,19 @@
 
 mod answer;
 mod answering;
+mod assembling;
 mod bounding;
+mod building;
 mod certifying;
+mod compiling;
+mod driving;
+mod executing;
+mod files;
+mod images;
 mod laws;
+mod listing_image;
+mod made_source;
+mod making;
 mod notes;
 mod numbers;
 mod running;

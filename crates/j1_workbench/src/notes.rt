@@ -144,6 +144,12 @@ pub fn write_note<N: Sink>(
             )
         }
         Status::NotCertified(_, cause) => write_uncertified(notes, name, cause),
+        Status::BadImage(offset) => {
+            write_line(notes, &[b"image byte ", digits.format(offset).as_bytes()])
+        }
+        Status::BadListing(line) => {
+            write_line(notes, &[b"listing line ", digits.format(line).as_bytes()])
+        }
         Status::StepsUsed => write_line(notes, &[b"steps used"]),
         Status::InputEnded => write_line(notes, &[b"input ended"]),
         Status::Outside(address) => {

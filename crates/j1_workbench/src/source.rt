@@ -1,22 +1,23 @@
 // Source files with a certificate.
 ghost use Rattle.std.specs.Prelude.{◌≡◌, ◌⊎◌, MatchResult};
 ghost use Rattle.j1_workbench.specs.Notes.{named};
-ghost use Rattle.j1_workbench.specs.Surroundings.{folder, IsReadOnce};
+ghost use Rattle.j1_workbench.specs.Surroundings.{folder, IsOnlyRead};
 ghost use Rattle.j1_workbench.specs.Sources.{HasCertificate, IsCertifiedSource, IsRefusedText, IsRefusedSource};
 
 use crate::answer::{Answer, answered};
+use crate::files::read_file;
 use crate::status::Status;
 use control_flow::{SourceError, read_program};
 use depth_certifier::{CertError, Certificate, certify};
 use forth_program::{Name, Program};
-use outside_io::{FileFault, Folder};
+use outside_io::Folder;
 use std::alloc::Global;
 
 /// The most bytes of a source.
 const MOST_SOURCE: usize = 65_536;
 
-// The program of a source text and its least certificate, or why the text is refused.
-fn certified_text(alloc: Global, text: &[u8]) -> Result<(Program, Certificate), Answer>
+/// The program of a source text and its least certificate, or why the text is refused.
+pub fn certified_text(alloc: Global, text: &[u8]) -> Result<(Program, Certificate), Answer>
     ensures { MatchResult result (λ found. HasCertificate text.now found.0 found.1)
         (λ answer. (answer.status ≡ Status.OutOfMemory) ⊎ IsRefusedText text.now answer.status (named answer.name)) }
 {
@@ -43,9 +44,7 @@ fn certified_text(alloc: Global, text: &[u8]) -> Result<(Program, Certificate), 
     }
 }
 
-/// The program of a source file and its least certificate, or why a command that works on it ends before it begins. The folder is
-/// asked once, for one byte more than a source may have: so it tells that a source is too large.
-#[tactic(auto, using(crate::proofs::Files::certified_file, crate::proofs::Files::refused_read))]
+/// The program of a source file and its least certificate, or why a command that works on it ends before it begins.
 pub fn certified_source<F: Folder>(
     alloc: Global,
     source: &str,
@@ -53,15 +52,13 @@ pub fn certified_source<F: Folder>(
 ) -> Result<(Program, Certificate), Answer>
     ensures read { let before = folder (F.files files.old) (F.calls files.old) (F.read_faults files.old) (F.write_faults files.old) (F.absences files.old) in
         let after = folder (F.files files.new) (F.calls files.new) (F.read_faults files.new) (F.write_faults files.new) (F.absences files.new) in
-        IsReadOnce before after }
+        IsOnlyRead 1 before after }
     ensures found { let before = folder (F.files files.old) (F.calls files.old) (F.read_faults files.old) (F.write_faults files.old) (F.absences files.old) in
         let after = folder (F.files files.new) (F.calls files.new) (F.read_faults files.new) (F.write_faults files.new) (F.absences files.new) in
         MatchResult result (λ found. IsCertifiedSource source.now before found.0 found.1) (λ answer. IsRefusedSource source.now before after answer.status (named answer.name)) }
 {
-    match files.read(alloc, source, MOST_SOURCE + 1) {
+    match read_file(alloc, source, MOST_SOURCE, files) {
         Ok(text) => certified_text(alloc, text.as_slice()),
-        Err(FileFault::Absent) => Err(answered(Status::Missing)),
-        Err(FileFault::Failed) => Err(answered(Status::ReadFault)),
-        Err(FileFault::OutOfMemory) => Err(answered(Status::OutOfMemory)),
+        Err(status) => Err(answered(status)),
     }
 }

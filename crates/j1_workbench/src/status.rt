@@ -20,6 +20,10 @@ pub enum Status {
     SourceRefused(SourceRefusal),
     /// The program has no stack certificate: the definition that is refused first, and why.
     NotCertified(DefId, CertCause),
+    /// The file is no image file: its first bad offset.
+    BadImage(u32),
+    /// The file is no assembly text: its first bad line.
+    BadListing(u32),
     /// The run had no end within its instructions.
     StepsUsed,
     /// The run wanted an input byte where none was left.
@@ -52,6 +56,7 @@ pub fn status_number(status: &Status) -> u8
         Status::Missing => 2,
         Status::SourceRefused(_) => 3,
         Status::NotCertified(_, _) => 4,
+        Status::BadImage(_) | Status::BadListing(_) => 5,
         Status::StepsUsed => 6,
         Status::InputEnded => 7,
         Status::Outside(_) => 8,

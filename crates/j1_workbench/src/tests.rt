@@ -2,6 +2,7 @@
 mod bounds;
 mod commands;
 mod folders;
+mod images;
 mod library;
 mod limits;
 mod machine;

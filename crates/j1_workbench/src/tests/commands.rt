@@ -23,10 +23,12 @@ make 65536 1                     | : MAIN ;                     |  |  | 1 bad wo
 make 0 0                         | : MAIN ;                     |  |  | 1 bad words
 make 0 201                       | : MAIN ;                     |  |  | 1 bad words
 eval X                           | : MAIN ;                     |  |  | 15 not yet
-build a b                        | : MAIN ;                     |  |  | 15 not yet
-exec a --steps 0                 | : MAIN ;                     |  |  | 15 not yet
+build a b                        | : MAIN ;                     |  |  | 2 a: missing
+exec a --steps 0                 | : MAIN ;                     |  |  | 2 a: missing
 forth                            | : MAIN ;                     |  |  | 15 not yet
-make 65535 200                   | : MAIN ;                     |  |  | 15 not yet
+build a                          | : MAIN ;                     |  |  | 1 bad words
+asm a                            | : MAIN ;                     |  |  | 1 bad words
+list a b                         | : MAIN ;                     |  |  | 1 bad words
 run NONE                         | : MAIN ;                     |  |  | 2 NONE: missing
 run NONE --steps 5               | : MAIN ;                     |  |  | 2 NONE: missing
 run source.fs --steps 0          | : MAIN ;                     |  |  | 6 steps used
@@ -70,6 +72,7 @@ notes 2     | run source.fs     | : MAIN 72 EMIT ABORT ;                       |
 files 1     | certify source.fs | : MAIN 72 EMIT ;                             | x  |    | 10 read fault
 writes 1    | certify source.fs | : MAIN 72 EMIT ;                             | x  |    | 11 write fault
 files 1     | bound source.fs   | : MAIN ;                                     | x  |    | 10 read fault
+files 2     | build source.fs b | : MAIN ;                                     | x  |    | 11 write fault
 writes 1    | bound source.fs   | : MAIN ;                                     | x  |    | 11 write fault
 writes 2    | bound source.fs   | : MAIN 10 0 DO LOOP ;                        | x  | 141 | 11 write fault
 questions 2 | run source.fs     | : MAIN KEY EMIT KEY EMIT KEY EMIT KEY EMIT ; |    |    | 7 input ended

@@ -1,6 +1,6 @@
 use Rattle.std.proofs.Common.{map, string_bytes, [], ◌∷◌, refl, ap, ◌∙◌, rules}
 use Rattle.std.specs.Prelude.{codes}
-use Rattle.j1_workbench.specs.declared.status.Status.TheVariants.{BadWords, StepsUsed, InputEnded, Outside, WriteFault, TooLarge}
+use Rattle.j1_workbench.specs.declared.status.Status.TheVariants.{BadWords, StepsUsed, InputEnded, Outside, BadImage, BadListing, WriteFault, TooLarge}
 use Rattle.j1_workbench.specs.Notes.{line, named}
 use Rattle.j1_workbench.proofs.SinkContents.{noted}
 use Rattle.j1_workbench.proofs.notes.write_note.Goals as goal
@@ -24,3 +24,9 @@ pub returns-in-TooLarge-clause-bytes : goal.returns-in-TooLarge-clause-bytes
 returns-in-TooLarge-clause-bytes g c =
     noted _ _ _ (map string_bytes c.args.words.now) (named c.args.name.now) c.args.status TooLarge _ c.in-TooLarge.is
     (ap (λ name. line (name ∷ codes ": too large" ∷ [])) (c.as_bytes-in-TooLarge.ensures.value ∙ c.file_named-in-TooLarge.ensures)) c.write_line-in-TooLarge.ensures.bytes
+
+pub returns-in-BadImage-clause-bytes : goal.returns-in-BadImage-clause-bytes
+returns-in-BadImage-clause-bytes g c = noted _ _ _ (map string_bytes c.args.words.now) (named c.args.name.now) c.args.status (BadImage c.in-BadImage.offset) _ c.in-BadImage.is (search rules) c.write_line-in-BadImage.ensures.bytes
+
+pub returns-in-BadListing-clause-bytes : goal.returns-in-BadListing-clause-bytes
+returns-in-BadListing-clause-bytes g c = noted _ _ _ (map string_bytes c.args.words.now) (named c.args.name.now) c.args.status (BadListing c.in-BadListing.line) _ c.in-BadListing.is (search rules) c.write_line-in-BadListing.ensures.bytes

@@ -1,5 +1,5 @@
 use Rattle.std.proofs.Common.{arith, inr}
-use Rattle.j1_workbench.proofs.Files.{uncertified_text}
+use Rattle.j1_workbench.proofs.FilesRead.{uncertified_text}
 use Rattle.j1_workbench.proofs.source.certified_text.Goals as goal
 
 pub returns-in-Err-NotCertified : goal.returns-in-Err-NotCertified

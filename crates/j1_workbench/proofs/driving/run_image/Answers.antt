@@ -1,6 +1,6 @@
 use Rattle.j1_workbench.specs.Surroundings.{stream}
-use Rattle.j1_workbench.proofs.DriveResult.{drives}
-use Rattle.j1_workbench.proofs.running.run_image.Goals as goal
+use Rattle.j1_workbench.proofs.Drives.{drives}
+use Rattle.j1_workbench.proofs.driving.run_image.Goals as goal
 
 pub returns : goal.returns
 returns g c =

@@ -22,7 +22,7 @@ use Rattle.j1_workbench.specs.declared.status.Status.TheVariants.{Done, BadWords
 use Rattle.j1_workbench.specs.declared.status.Status.TheVariants.{Outside, Halted, ReadFault, WriteFault, OutOfMemory, TooLarge, NotYet, BoundRefused}
 use Rattle.j1_workbench.specs.Statuses.{status_of, halted_status}
 use Rattle.j1_workbench.specs.Surroundings.{Stream}
-use Rattle.j1_workbench.specs.Running.{IsRunAnswer, RanAs, DriveLeaves, in_vain, Gave, Drives, status_after}
+use Rattle.j1_workbench.specs.Driving.{IsRunAnswer, RanAs, DriveLeaves, in_vain, Gave, Drives, status_after}
 
 -- where nothing waits in the buffer, all that was printed stands in out
 all_written : (before now : Option (List ℕ)) (printed : List ℕ) → HoldsPrints before now [] printed → Appends before now printed
@@ -54,14 +54,7 @@ as_run image input steps (Outside address) left before now answer ran = (answer,
 as_run image input steps (Halted status) left before now answer ran = (answer, ran)
 as_run image input steps ReadFault left before now answer ran = absurd answer
 as_run image input steps WriteFault left before now answer ran = absurd answer
-as_run image input steps BadWords left before now answer ran = absurd answer
-as_run image input steps Missing left before now answer ran = absurd answer
-as_run image input steps (SourceRefused refusal) left before now answer ran = absurd answer
-as_run image input steps (NotCertified id cause) left before now answer ran = absurd answer
-as_run image input steps OutOfMemory left before now answer ran = absurd answer
-as_run image input steps TooLarge left before now answer ran = absurd answer
-as_run image input steps NotYet left before now answer ran = absurd answer
-as_run image input steps (BoundRefused id cause) left before now answer ran = absurd answer
+as_run image input steps status left before now answer ran = absurd answer
 
 -- what an Ok, a failed read and a failed write say
 abbrev pub OkSays : ℕ → MachineState → MachineState → Result Finish DriveError → Option (List ℕ) → Option (List ℕ) → Option (List ℕ) → List ℕ → Type 0

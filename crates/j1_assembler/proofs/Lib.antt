@@ -1,0 +1,9 @@
+pub mod Parts
+pub mod Defining
+pub mod Data
+pub mod Steps
+pub mod Inversion
+pub mod Forward
+pub mod FirstBad
+pub mod Judged
+pub mod Examples

@@ -1,0 +1,10 @@
+pub mod Text
+pub mod Numbers
+pub mod Names
+pub mod Instruction
+pub mod Lines
+pub mod Labels
+pub mod Assembly
+pub mod Answers
+pub mod Grammar
+pub mod FirstBad
