@@ -1,6 +1,6 @@
 -- What the relation of each command says, part by part.
 use Rattle.std.proofs.Common.{◌≡◌, inl, inr, ℕ, Bool, true, false, List, [], ◌∷◌, ◌++◌, refl, sym, subst}
-use Rattle.std.specs.Prelude.{Option, Some, None, decimal, slice_index_or}
+use Rattle.std.specs.Prelude.{Option, Some, None, Result, decimal, slice_index_or}
 use Rattle.j1_table.specs.Image.{Content}
 use Rattle.decompiler.specs.Listing.{listing}
 use Rattle.decompiler.specs.Laws.{AssemblesOnlyTo}
@@ -33,6 +33,10 @@ use Rattle.j1_workbench.specs.Assembling.{AssemblesFile}
 use Rattle.j1_workbench.specs.Making.{Makes}
 use Rattle.j1_workbench.specs.Certifying.{Writes, Certifies}
 use Rattle.j1_workbench.specs.Bounding.{Bounds}
+use Rattle.j1_workbench.specs.Evaluating.{IsReading, IsReadSource, Evaluates, status_after as status_of_eval}
+use Rattle.reference_eval.specs.declared.ends.EvalFinish.{EvalFinish}
+use Rattle.reference_eval.specs.declared.ends.EvalError.{EvalError}
+use Rattle.reference_eval.specs.Evaluation.{Evaluates as EvaluatesRun}
 use Rattle.j1_workbench.specs.Answers.{Does}
 
 -- the program of a source file can be laid out
@@ -61,8 +65,8 @@ compiled source before program certificate image laws found laid lists = record 
 }
 
 -- its first data are bytes
-pub has_bytes : EachProgramIsSource → (source : List ℕ) (before : FolderState) (program : SourceProgram) (certificate : Cert) → IsCertifiedSource source before program certificate → AreBytes program.first_space
-has_bytes sources source before program certificate found = (sources found.0 program found.2.program_is).bytes
+pub has_bytes : EachProgramIsSource → (text : List ℕ) (program : SourceProgram) (certificate : Cert) → HasCertificate text program certificate → AreBytes program.first_space
+has_bytes sources text program certificate found = (sources text program found.program_is).bytes
 
 -- and its certificate is valid
 pub is_valid : (source : List ℕ) (before : FolderState) (program : SourceProgram) (certificate : Cert) → IsCertifiedSource source before program certificate → IsValid program certificate
@@ -126,20 +130,21 @@ pub bound_without_memory : (source : List ℕ) (before after : Surroundings) (na
 unfolding Bounds
 bound_without_memory source before after name read console out = (read, console, inl (tt, out))
 
-pub bound_written : (source : List ℕ) (before after : Surroundings) (status : Status) (name : List ℕ) (program : SourceProgram) (certificate : Cert) (image : Content) (steps : ℕ) →
-    IsOnlyRead 1 before.folder after.folder → IsCertifiedSource source before.folder program certificate → after.console ≡ before.console → image ≡ image_of program →
-    step_bound program ≡ Bounded steps → EndsOnChip image steps → Writes before.out after.out (decimal steps ++ 10 ∷ []) status → Bounds source before after status name
+pub bound_written : (source : List ℕ) (before after : Surroundings) (status : Status) (answer : Answer) (program : SourceProgram) (certificate : Cert) (image : Content) (steps : ℕ) →
+    answer ≡ record { status = status; name = None } → IsOnlyRead 1 before.folder after.folder → IsCertifiedSource source before.folder program certificate → after.console ≡ before.console → image ≡ image_of program →
+    step_bound program ≡ Bounded steps → EndsOnChip image steps → Writes before.out after.out (decimal steps ++ 10 ∷ []) status → Bounds source before after answer.status (named answer.name)
 unfolding Bounds
-bound_written source before after status name program certificate image steps read found console laid bound ends writes = (
-  read,
-  console,
-  inr (record {
-    program = program;
-    certificate = certificate;
-    source_is = found;
-    answers = inl (record { steps = steps; bound = bound; ends = subst (λ i. EndsOnChip i steps) laid ends; writes = writes });
-  }),
-)
+bound_written source before after status answer program certificate image steps is read found console laid bound ends writes =
+    subst (λ a. Bounds source before after a.status (named a.name)) (sym is) (
+      read,
+      console,
+      inr (record {
+        program = program;
+        certificate = certificate;
+        source_is = found;
+        answers = inl (record { steps = steps; bound = bound; ends = subst (λ i. EndsOnChip i steps) laid ends; writes = writes });
+      }),
+    )
 
 pub bound_none : (source : List ℕ) (before after : Surroundings) (name : List ℕ) (program : SourceProgram) (certificate : Cert) (id : DefId) (cause : BoundCause) →
     IsOnlyRead 1 before.folder after.folder → IsCertifiedSource source before.folder program certificate → after.console ≡ before.console → after.out ≡ before.out →
@@ -155,6 +160,24 @@ bound_none source before after name program certificate id cause read found cons
     answers = inr (record { definition = id; cause = cause; refused = refused; status_is = refl; name_is = called; out = out });
   }),
 )
+
+-- ---- eval
+
+pub eval_refused : (source : List ℕ) (steps : ℕ) (before after : Surroundings) (status : Status) (name : List ℕ) →
+    IsOnlyRead 1 before.folder after.folder → IsRefusedSource source before.folder after.folder status name × IsReading status → after.console ≡ before.console → after.out ≡ before.out → Evaluates source steps before after status name
+unfolding Evaluates
+eval_refused source steps before after status name read refused console out = (read, inl (refused.0, refused.1, (console, out)))
+
+pub eval_evaluated : (source : List ℕ) (steps : ℕ) (before after : Surroundings) (status : Status) (answer : Answer) (program : SourceProgram) (result : Result EvalFinish EvalError) →
+    answer ≡ record { status = status; name = None } → status ≡ status_of_eval result → IsOnlyRead 1 before.folder after.folder → IsReadSource source before.folder program →
+    EvaluatesRun program steps result before.console.bytes after.console.bytes before.console.faults after.console.faults before.out.bytes after.out.bytes before.out.faults after.out.faults →
+    Evaluates source steps before after answer.status (named answer.name)
+unfolding Evaluates
+eval_evaluated source steps before after status answer program result is told read found evaluates =
+    subst (λ a. Evaluates source steps before after a.status (named a.name)) (sym is) (
+      read,
+      inr (record { program = program; source_is = found; result = result; status_is = told; evaluates = evaluates }),
+    )
 
 -- ---- commands
 
@@ -176,6 +199,12 @@ pub does_bound : (request : Option Request) (source : List ℕ) (before after : 
     request ≡ Some (Bound source) → Bounds source before after status name → Does request before after status name
 unfolding Does
 does_bound request source before after status name asked bounds = subst (λ r. Does r before after status name) (sym asked) bounds
+
+pub does_evaluate : (request : Option Request) (source : List ℕ) (steps : Option ℕ) (allowed : ℕ) (before after : Surroundings) (status : Status) (name : List ℕ) →
+    request ≡ Some (Evaluate source steps) → allowed ≡ steps_allowed steps → Evaluates source allowed before after status name → Does request before after status name
+unfolding Does
+does_evaluate request source steps allowed before after status name asked few evaluates =
+    subst (λ r. Does r before after status name) (sym asked) (subst (λ n. Evaluates source n before after status name) few evaluates)
 
 pub does_build : (request : Option Request) (source file : List ℕ) (before after : Surroundings) (status : Status) (name : List ℕ) →
     request ≡ Some (Build source file) → Builds source file before after status name → Does request before after status name
@@ -208,13 +237,11 @@ does_make request seed count steps before after status name asked same makes =
 
 -- the commands that are not built
 abbrev is_unbuilt : Request → Bool
-is_unbuilt (Evaluate source steps) = true
 is_unbuilt (Forth steps) = true
 is_unbuilt request = false
 
 not_yet : (request : Request) (before : Surroundings) (name : List ℕ) → is_unbuilt request ≡ true → Does (Some request) before before NotYet name
 unfolding Does
-not_yet (Evaluate source steps) before name unbuilt = (refl, refl)
 not_yet (Forth steps) before name unbuilt = (refl, refl)
 not_yet request before name unbuilt = absurd cc
 

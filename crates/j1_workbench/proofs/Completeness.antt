@@ -1,7 +1,7 @@
 -- Each source has its one answer, where nothing outside fails.
-use Rattle.std.proofs.Common.{◌≡◌, ◌⊎◌, inl, inr, ℕ, ◌<◌, ◌≤◌, List, [], length, true, false, nat_le, refl, sym, ap, ◌∙◌, subst, arith}
+use Rattle.std.proofs.Common.{◌≡◌, ◌⊎◌, inl, inr, ℕ, zero, suc, ◌<◌, ◌≤◌, List, [], length, true, false, nat_le, refl, sym, ap, ◌∙◌, subst, arith}
 use Rattle.std.proofs.lemmas.Bool.Decides.{nat_tests}
-use Rattle.std.specs.Prelude.{Option, Some, None, slice_index_or}
+use Rattle.std.specs.Prelude.{Option, Some, None, Result, Ok, Err, slice_index_or}
 use Rattle.std.specs.List.{All}
 use Rattle.outside_io.specs.Causes.{Rose}
 use Rattle.outside_io.specs.Files.{Files, Lacks}
@@ -18,7 +18,7 @@ use Rattle.depth_certifier.specs.Rounds.{Refusal, RoundsRefuse, ProperToken, Rou
 use Rattle.j1_workbench.specs.declared.status.Status.{Status}
 use Rattle.j1_workbench.specs.declared.status.Status.TheVariants.{Done, BadWords, Missing, SourceRefused, NotCertified, StepsUsed, InputEnded, Outside, Halted, ReadFault, WriteFault, OutOfMemory, TooLarge, NotYet}
 use Rattle.j1_workbench.specs.Surroundings.{Stream, FolderState, Surroundings}
-use Rattle.j1_workbench.specs.Files.{Holds, IsWritten}
+use Rattle.j1_workbench.specs.Files.{HoldsFile, IsWritten}
 use Rattle.j1_workbench.specs.Sources.{HasCertificate, IsUncertified, IsRefusedText, IsRefusedSource}
 use Rattle.j1_workbench.specs.Driving.{IsRunAnswer}
 use Rattle.j1_workbench.specs.Running.{Runs}
@@ -31,7 +31,14 @@ use Rattle.j1_workbench.specs.Making.{ThenWrites, Makes}
 use Rattle.j1_table.specs.Image.{Content}
 use Rattle.image_file.specs.Laws.{FilesAreImages}
 use Rattle.j1_workbench.proofs.FileCompleteness.{ImageFileLaws, TextLaws, told_text, not_missing, done_answer, run_answer, execute_complete, list_complete, assemble_complete, built_runs}
-use Rattle.j1_workbench.specs.Completeness.{Tells, FailsNowhere, IsComplete, IsBoundAnswer, IsAnswerOfText, IsJudged, AnswersAreComplete}
+use Rattle.reference_eval.specs.declared.ends.End.TheVariants as ends
+use Rattle.reference_eval.specs.declared.ends.EvalFinish.{EvalFinish}
+use Rattle.reference_eval.specs.declared.ends.EvalFinish.TheVariants as finish
+use Rattle.reference_eval.specs.declared.ends.EvalError.{EvalError}
+use Rattle.reference_eval.specs.declared.ends.EvalError.TheVariants as error
+use Rattle.j1_workbench.specs.Statuses.{halted_status}
+use Rattle.j1_workbench.specs.Evaluating.{IsReadText, IsReading, IsEvaluationAnswer, Evaluates, status_after as status_of_eval}
+use Rattle.j1_workbench.specs.Completeness.{Tells, FailsNowhere, IsComplete, IsEvaluated, IsBoundAnswer, IsAnswerOfText, IsJudged, AnswersAreComplete}
 
 -- ---- a text has one outcome
 
@@ -96,7 +103,7 @@ one_refusal one text status other name called first second =
 -- ---- what a command finds in a file that is told
 
 refused_text : (source text : List ℕ) (before : FolderState) (status : Status) (name : List ℕ) → Tells before.files source text →
-    (other : List ℕ) × Holds before.files source other × IsRefusedText other status name → (status ≡ OutOfMemory) ⊎ IsRefusedText text status name
+    (other : List ℕ) × HoldsFile before.files source other × IsRefusedText other status name → (status ≡ OutOfMemory) ⊎ IsRefusedText text status name
 refused_text source text before status name told found = inr (subst (λ t. IsRefusedText t status name) (told_text before.files source text found.0 told found.1) found.2)
 
 refused_source : (source text : List ℕ) (before after : FolderState) (status : Status) (name : List ℕ) → Tells before.files source text → (Rose before.read_faults after.read_faults → ⊥) →
@@ -229,12 +236,62 @@ judged each sources end least none text =
       | false ↦ λ long. inl (TooLarge, [], grind (arith, nat_tests))
     ] refl
 
+-- ---- eval
+
+not_refused : (text : List ℕ) (status : Status) (name : List ℕ) (p : SourceProgram) → IsRefusedText text status name → IsReading status → IsReadText text p → ⊥
+not_refused text status name p refused reading is =
+    by_kind (λ s. IsReading s → ⊥) text status name refused
+    (λ long r. clash text long is.short)
+    (λ refusal short e r. let f = is.program_is in cc)
+    (λ id cause u r. r)
+    (λ short e r. let f = is.program_is in cc)
+    reading
+
+eval_refusal : OneRefusal → (text : List ℕ) (status : Status) (name : List ℕ) → IsReading status → (status ≡ OutOfMemory) ⊎ IsRefusedText text status name → IsEvaluated text status
+eval_refusal one text status name reading (inl wanting) = record { refused = λ refusal called refused r. inl wanting; read = λ p is. inl wanting }
+eval_refusal one text status name reading (inr found) = record {
+  refused = λ refusal called refused r. inr (one_refusal one text status refusal name called found refused);
+  read = λ p is. absurd (not_refused text status name p found reading is);
+}
+
+halted_answer : (n : ℕ) → IsEvaluationAnswer (halted_status n)
+halted_answer zero = tt
+halted_answer (suc n) = tt
+
+eval_answer : (result : Result EvalFinish EvalError) (P Q : Type 0) → (result ≡ Err error.Read → P) → (result ≡ Err error.Write → Q) → (P → ⊥) → (Q → ⊥) → (status_of_eval result ≡ OutOfMemory) ⊎ IsEvaluationAnswer (status_of_eval result)
+eval_answer (Ok (finish.Ended (ends.Halted n))) P Q read write no_read no_write = inr (halted_answer n)
+eval_answer (Ok (finish.Ended ends.InputEnded)) P Q read write no_read no_write = inr tt
+eval_answer (Ok (finish.Ended (ends.Outside address))) P Q read write no_read no_write = inr tt
+eval_answer (Ok finish.StepsUsed) P Q read write no_read no_write = inr tt
+eval_answer (Ok finish.Underflow) P Q read write no_read no_write = inr tt
+eval_answer (Ok finish.Unbalanced) P Q read write no_read no_write = inr tt
+eval_answer (Err error.Read) P Q read write no_read no_write = absurd (no_read (read refl))
+eval_answer (Err error.Write) P Q read write no_read no_write = absurd (no_write (write refl))
+eval_answer (Err error.OutOfMemory) P Q read write no_read no_write = inl refl
+
+eval_read : (text : List ℕ) (status : Status) (p : SourceProgram) → IsReadText text p → (status ≡ OutOfMemory) ⊎ IsEvaluationAnswer status → IsEvaluated text status
+eval_read text status p is answer = record {
+  refused = λ refusal called refused r. absurd (not_refused text refusal called p refused r is);
+  read = λ q other. answer;
+}
+
+eval_complete : OneRefusal → (source text : List ℕ) (steps : ℕ) (before after : Surroundings) (status : Status) (name : List ℕ) →
+    Evaluates source steps before after status name → Tells before.folder.files source text → FailsNowhere before after → IsEvaluated text status
+unfolding Evaluates
+eval_complete one source text steps before after status name (read, inl refused) told calm =
+    eval_refusal one text status name refused.1 (refused_source source text before.folder after.folder status name told calm.folder refused.0)
+eval_complete one source text steps before after status name (read, inr ran) told calm =
+    eval_read text status ran.program
+    (subst (λ t. IsReadText t ran.program) (told_text before.folder.files source text ran.source_is.0 told ran.source_is.1) ran.source_is.2)
+    (subst (λ s. (s ≡ OutOfMemory) ⊎ IsEvaluationAnswer s) (sym ran.status_is) (eval_answer ran.result _ _ ran.evaluates.read_cause ran.evaluates.write_cause calm.console calm.out))
+
 pub complete : EachIsJudged → EachProgramIsSource → RoundsEnd → RoundsFindTheLeast → RefusedHaveNone → OneRefusal → ImageFileLaws → TextLaws → FilesAreImages → AnswersAreComplete
 complete each sources end least none one files texts same = record {
   each = judged each sources end least none;
   run = run_complete one;
   certify = certify_complete one;
   bound = bound_complete one;
+  eval = eval_complete one;
   build = build_complete one;
   make = make_complete one;
   execute = execute_complete files;

@@ -13,7 +13,7 @@ use Rattle.j1_assembler.specs.FirstBad.{IsFirstBad, RefusesFirstBad}
 use Rattle.j1_workbench.specs.declared.status.Status.{Status}
 use Rattle.j1_workbench.specs.declared.status.Status.TheVariants.{Done, Missing, ReadFault, WriteFault, OutOfMemory, TooLarge, BadImage, BadListing}
 use Rattle.j1_workbench.specs.Surroundings.{Stream, FolderState, Surroundings}
-use Rattle.j1_workbench.specs.Files.{Holds, IsRead, IsUnread, IsRefusedFile}
+use Rattle.j1_workbench.specs.Files.{HoldsFile, IsRead, IsUnread, IsRefusedFile}
 use Rattle.j1_workbench.specs.Driving.{IsRunAnswer, Drives}
 use Rattle.j1_workbench.specs.Certifying.{Writes}
 use Rattle.j1_workbench.specs.Images.{IsBadImage, IsImageFile}
@@ -24,7 +24,7 @@ use Rattle.j1_workbench.specs.Completeness.{Tells, FailsNowhere, IsCompleteFile}
 
 -- ---- what a command finds in a file that is told
 
-pub told_text : (files : Option Files) (source text other : List ℕ) → Tells files source text → Holds files source other → other ≡ text
+pub told_text : (files : Option Files) (source text other : List ℕ) → Tells files source text → HoldsFile files source other → other ≡ text
 told_text None source text other told holds = absurd told
 told_text (Some files) source text other told holds = let e : Some other ≡ Some text = sym holds ∙ told in cc
 

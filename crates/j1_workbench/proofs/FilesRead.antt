@@ -17,8 +17,9 @@ use Rattle.forth_program.specs.declared.item.DefId.{DefId}
 use Rattle.j1_workbench.specs.declared.status.Status.{Status}
 use Rattle.j1_workbench.specs.declared.status.Status.TheVariants.{Done, BadWords, Missing, SourceRefused, NotCertified, StepsUsed, InputEnded, Outside, Halted, ReadFault, WriteFault, OutOfMemory, TooLarge, NotYet}
 use Rattle.j1_workbench.specs.Notes.{named}
+use Rattle.j1_workbench.specs.Evaluating.{IsReading}
 use Rattle.j1_workbench.specs.Surroundings.{FolderState}
-use Rattle.j1_workbench.specs.Files.{Holds, IsRead, IsUnread}
+use Rattle.j1_workbench.specs.Files.{HoldsFile, IsRead, IsUnread}
 use Rattle.j1_workbench.specs.Sources.{HasCertificate, IsUncertified, IsCertifiedSource, IsRefusedText, IsRefusedSource}
 
 some_same : {A : Type 0} (x y : A) → Some x ≡ Some y → x ≡ y
@@ -30,7 +31,7 @@ has_content None most front read = cc
 has_content (Some text) most front read = (text, refl, some_same _ _ read)
 
 -- one byte more than a file may have tells whether it is too long
-whole_by : (files : Option Files) (name front : List ℕ) (most next : ℕ) → next ≡ most + 1 → HasFront files name next front → length front ≤ most → Holds files name front
+whole_by : (files : Option Files) (name front : List ℕ) (most next : ℕ) → next ≡ most + 1 → HasFront files name next front → length front ≤ most → HoldsFile files name front
 whole_by None name front most next one read short = tt
 whole_by (Some files) name front most next one read short =
     let found = has_content (files name) next front read in
@@ -40,7 +41,7 @@ whole_by (Some files) name front most next one read short =
 pub read_whole : (before : FolderState) (name front : List ℕ) (most next : ℕ) → next ≡ most + 1 → HasFront before.files name next front → length front ≤ most → IsRead most name before front
 read_whole before name front most next one read short = record { holds = whole_by before.files name front most next one read short; short = short }
 
-long_by : (files : Option Files) (name front : List ℕ) (most next : ℕ) → next ≡ most + 1 → HasFront files name next front → most < length front → (content : List ℕ) × Holds files name content × (most < length content)
+long_by : (files : Option Files) (name front : List ℕ) (most next : ℕ) → next ≡ most + 1 → HasFront files name next front → most < length front → (content : List ℕ) × HoldsFile files name content × (most < length content)
 long_by None name front most next one read long = (front, tt, long)
 long_by (Some files) name front most next one read long =
     let found = has_content (files name) next front read in
@@ -48,13 +49,13 @@ long_by (Some files) name front most next one read long =
     (found.0, found.1, omega (arith, length-take next found.0))
 
 pub read_too_large : (before : FolderState) (name front : List ℕ) (most next : ℕ) → next ≡ most + 1 → HasFront before.files name next front →
-    most < length front → (content : List ℕ) × Holds before.files name content × (most < length content)
+    most < length front → (content : List ℕ) × HoldsFile before.files name content × (most < length content)
 read_too_large before name front most next one read long = long_by before.files name front most next one read long
 
 -- ---- sources
 
 -- what is refused of a source that was read
-read_source : (source text : List ℕ) (before after : FolderState) (status : Status) (name : List ℕ) → Holds before.files source text → IsRefusedText text status name → IsRefusedSource source before after status name
+read_source : (source text : List ℕ) (before after : FolderState) (status : Status) (name : List ℕ) → HoldsFile before.files source text → IsRefusedText text status name → IsRefusedSource source before after status name
 read_source source text before after TooLarge name holds refused = (text, holds, refused)
 read_source source text before after (SourceRefused refusal) name holds refused = (text, holds, refused)
 read_source source text before after (NotCertified id cause) name holds refused = (text, holds, refused)
@@ -72,6 +73,11 @@ unread_source source before after ReadFault name unread = unread
 unread_source source before after OutOfMemory name unread = tt
 unread_source source before after TooLarge name unread = unread
 unread_source source before after status name unread = absurd unread
+
+-- it is not refused for the want of a certificate
+pub unread_reading : (source : List ℕ) (before after : FolderState) (status : Status) → IsUnread 65536 source before after status → IsReading status
+unread_reading source before after (NotCertified id cause) unread = absurd unread
+unread_reading source before after status unread = tt
 
 no_name : IsSome {T = List ℕ} None → ⊥
 no_name some = cc

@@ -25,6 +25,7 @@ use Rattle.j1_workbench.specs.Assembling.{IsBadListing, AssemblesFile}
 use Rattle.j1_workbench.specs.Running.{Runs}
 use Rattle.j1_workbench.specs.Certifying.{Certifies}
 use Rattle.j1_workbench.specs.Bounding.{Bounds}
+use Rattle.j1_workbench.specs.Evaluating.{IsReadText, IsReading, IsEvaluationAnswer, Evaluates}
 
 -- the folder tells its files, and this one has this text
 abbrev pub Tells : Option Files → List ℕ → List ℕ → Type 0
@@ -41,6 +42,11 @@ pub record FailsNowhere (before after : Surroundings) : Type 0 where
 pub record IsComplete (text : List ℕ) (status : Status) (IsAnswer : Status → Type 0) : Type 0 where
   pub refused : (refusal : Status) (name : List ℕ) → IsRefusedText text refusal name → (status ≡ OutOfMemory) ⊎ (status ≡ refusal)
   pub certified : (program : SourceProgram) (certificate : Cert) → HasCertificate text program certificate → (status ≡ OutOfMemory) ⊎ IsAnswer status
+
+-- memory was wanting; or a text without a program has its refusal, and each other one an answer of the evaluation, certified or not
+pub record IsEvaluated (text : List ℕ) (status : Status) : Type 0 where
+  pub refused : (refusal : Status) (name : List ℕ) → IsRefusedText text refusal name → IsReading refusal → (status ≡ OutOfMemory) ⊎ (status ≡ refusal)
+  pub read : (program : SourceProgram) → IsReadText text program → (status ≡ OutOfMemory) ⊎ IsEvaluationAnswer status
 
 -- the answer of `bound`: the program has a bound, or the answer says why it has none
 abbrev pub IsBoundAnswer : SourceProgram → Status → Type 0
@@ -69,6 +75,8 @@ pub record AnswersAreComplete : Type 0 where
       Certifies source before after status name → Tells before.folder.files source text → FailsNowhere before after → IsComplete text status (λ s. s ≡ Done)
   pub bound : (source text : List ℕ) (before after : Surroundings) (status : Status) (name : List ℕ) →
       Bounds source before after status name → Tells before.folder.files source text → FailsNowhere before after → IsComplete text status (IsAnswerOfText text)
+  pub eval : (source text : List ℕ) (steps : ℕ) (before after : Surroundings) (status : Status) (name : List ℕ) →
+      Evaluates source steps before after status name → Tells before.folder.files source text → FailsNowhere before after → IsEvaluated text status
   -- where the write of the folder did not fail either
   pub build : (source file text : List ℕ) (before after : Surroundings) (status : Status) (name : List ℕ) →
       Builds source file before after status name → Tells before.folder.files source text → FailsNowhere before after → (Rose before.folder.write_faults after.folder.write_faults → ⊥) → IsComplete text status (λ s. s ≡ Done)

@@ -7,13 +7,13 @@ use Rattle.j1_workbench.specs.declared.status.Status.TheVariants.{Done, Missing,
 use Rattle.j1_workbench.specs.Surroundings.{FolderState, IsOnlyRead}
 
 -- the file has this content, where the folder tells its files
-abbrev pub Holds : Option Files → List ℕ → List ℕ → Type 0
-Holds None name content = ⊤
-Holds (Some files) name content = files name ≡ Some content
+abbrev pub HoldsFile : Option Files → List ℕ → List ℕ → Type 0
+HoldsFile None name content = ⊤
+HoldsFile (Some files) name content = files name ≡ Some content
 
 -- a file of at most so many bytes was read
 pub record IsRead (most : ℕ) (name : List ℕ) (before : FolderState) (content : List ℕ) : Type 0 where
-  pub holds : Holds before.files name content
+  pub holds : HoldsFile before.files name content
   pub short : length content ≤ most
 
 -- why a file of at most so many bytes was not read
@@ -21,7 +21,7 @@ abbrev pub IsUnread : ℕ → List ℕ → FolderState → FolderState → Statu
 IsUnread most name before after Missing = Rose before.absences after.absences × Lacks before.files name
 IsUnread most name before after ReadFault = Rose before.read_faults after.read_faults
 IsUnread most name before after OutOfMemory = ⊤
-IsUnread most name before after TooLarge = (content : List ℕ) × Holds before.files name content × (most < length content)
+IsUnread most name before after TooLarge = (content : List ℕ) × HoldsFile before.files name content × (most < length content)
 IsUnread most name before after status = ⊥
 
 -- why a command on a file ended before its work: the file was not read, or what is in it is refused with this status

@@ -15,6 +15,7 @@ pub mod Images
 pub mod Executing
 pub mod Certifying
 pub mod Bounding
+pub mod Evaluating
 pub mod ListingImage
 pub mod Assembling
 pub mod MadeSource

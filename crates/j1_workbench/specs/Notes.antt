@@ -7,7 +7,7 @@ use Rattle.depth_certifier.specs.declared.effect.CertCause.TheVariants as certif
 use Rattle.step_certifier.specs.declared.bound.BoundCause.{BoundCause}
 use Rattle.step_certifier.specs.declared.bound.BoundCause.TheVariants as bound
 use Rattle.j1_workbench.specs.declared.status.Status.{Status}
-use Rattle.j1_workbench.specs.declared.status.Status.TheVariants.{Done, BadWords, Missing, SourceRefused, NotCertified, StepsUsed, InputEnded, Outside, Halted, ReadFault, WriteFault, OutOfMemory, TooLarge, NotYet, BadImage, BadListing, BoundRefused}
+use Rattle.j1_workbench.specs.declared.status.Status.TheVariants.{Done, BadWords, Missing, SourceRefused, NotCertified, StepsUsed, InputEnded, Outside, Halted, ReadFault, WriteFault, OutOfMemory, TooLarge, Underflow, Unbalanced, NotYet, BadImage, BadListing, BoundRefused}
 
 -- the file that is read: the word behind the command
 abbrev pub file_named : List (List ℕ) → List ℕ
@@ -80,5 +80,7 @@ note_of words ReadFault name = line (codes "read fault" ∷ [])
 note_of words WriteFault name = line (codes "write fault" ∷ [])
 note_of words OutOfMemory name = line (codes "out of memory" ∷ [])
 note_of words TooLarge name = line (file_named words ∷ codes ": too large" ∷ [])
+note_of words Underflow name = line (codes "underflow" ∷ [])
+note_of words Unbalanced name = line (codes "unbalanced" ∷ [])
 note_of words NotYet name = line (codes "not yet" ∷ [])
 note_of words (BoundRefused id cause) name = line (name ∷ unbounded cause ∷ [])

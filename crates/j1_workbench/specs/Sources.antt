@@ -11,7 +11,7 @@ use Rattle.depth_certifier.specs.Rounds.{IsLeast, RoundsRefuse}
 use Rattle.j1_workbench.specs.declared.status.Status.{Status}
 use Rattle.j1_workbench.specs.declared.status.Status.TheVariants.{Missing, SourceRefused, NotCertified, ReadFault, OutOfMemory, TooLarge, NotYet}
 use Rattle.j1_workbench.specs.Surroundings.{FolderState}
-use Rattle.j1_workbench.specs.Files.{Holds}
+use Rattle.j1_workbench.specs.Files.{HoldsFile}
 
 -- a source has at most 65,536 bytes
 abbrev pub IsShort : List ℕ → Type 0

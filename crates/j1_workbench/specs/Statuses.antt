@@ -1,7 +1,7 @@
 -- The number of each status, and the status of a run's end.
 use Rattle.std.specs.Prelude.{ℕ, zero, suc, Option, Some, None}
 use Rattle.j1_workbench.specs.declared.status.Status.{Status}
-use Rattle.j1_workbench.specs.declared.status.Status.TheVariants.{Done, BadWords, Missing, SourceRefused, NotCertified, StepsUsed, InputEnded, Outside, Halted, ReadFault, WriteFault, OutOfMemory, TooLarge, NotYet, BadImage, BadListing, BoundRefused}
+use Rattle.j1_workbench.specs.declared.status.Status.TheVariants.{Done, BadWords, Missing, SourceRefused, NotCertified, StepsUsed, InputEnded, Outside, Halted, ReadFault, WriteFault, OutOfMemory, TooLarge, Underflow, Unbalanced, NotYet, BadImage, BadListing, BoundRefused}
 use Rattle.j1_simulator.specs.declared.ends.End.{End}
 use Rattle.j1_simulator.specs.declared.ends.End.TheVariants as ends
 
@@ -21,6 +21,8 @@ number_of ReadFault = 10
 number_of WriteFault = 11
 number_of OutOfMemory = 12
 number_of TooLarge = 13
+number_of Underflow = 14
+number_of Unbalanced = 14
 number_of NotYet = 15
 number_of (BoundRefused id cause) = 16
 

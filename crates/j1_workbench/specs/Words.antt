@@ -76,7 +76,7 @@ request_of (command ∷ words) = request_for command words
 abbrev pub asked : {Z : Type 0} → List (String Z) → Option Request
 asked words = request_of (map string_bytes words)
 
--- how many instructions a run may make, where the words give a number and where they give none
+-- how many instructions a run and how many word steps an evaluation may make, where the words give a number and where they give none
 unfoldable pub steps_allowed : Option ℕ → ℕ
 steps_allowed None = 10000000
 steps_allowed (Some steps) = steps

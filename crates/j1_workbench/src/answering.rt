@@ -10,6 +10,7 @@ use crate::assembling::assemble_file;
 use crate::bounding::bound;
 use crate::building::build;
 use crate::certifying::certify;
+use crate::evaluating::evaluate_source;
 use crate::executing::execute;
 use crate::listing_image::list;
 use crate::making::make;
@@ -19,7 +20,7 @@ use crate::words::{Command, command_of};
 use outside_io::{Folder, Sink, Source};
 use std::alloc::Global;
 
-// How many instructions a run may make.
+// How many instructions a run may make, and how many word steps an evaluation.
 #[tactic(auto, unfolding(crate::specs::Words::steps_allowed))]
 fn steps_allowed(steps: Option<u32>) -> u64
     ensures { result ≡ steps_allowed steps }
@@ -31,7 +32,7 @@ fn steps_allowed(steps: Option<u32>) -> u64
 }
 
 /// Does what the words of a command line ask for, but for the note.
-#[tactic(auto, using(crate::proofs::Commands::does_nothing, crate::proofs::Commands::does_run, crate::proofs::Commands::does_certify, crate::proofs::Commands::does_bound, crate::proofs::Commands::does_execute, crate::proofs::Commands::does_not_yet))]
+#[tactic(auto, using(crate::proofs::Commands::does_nothing, crate::proofs::Commands::does_run, crate::proofs::Commands::does_certify, crate::proofs::Commands::does_bound, crate::proofs::Commands::does_evaluate, crate::proofs::Commands::does_execute, crate::proofs::Commands::does_not_yet))]
 pub fn answer<F: Folder, C: Source, O: Sink>(
     alloc: Global,
     words: &[String],
@@ -61,7 +62,9 @@ pub fn answer<F: Folder, C: Source, O: Sink>(
         Some(Command::Assemble { listing, image }) => {
             answered(assemble_file(alloc, listing, image, files))
         }
-        Some(Command::Evaluate { .. }) => answered(Status::NotYet),
+        Some(Command::Evaluate { source, steps }) => {
+            evaluate_source(alloc, source, steps_allowed(steps), files, console, out)
+        }
         Some(Command::Forth { .. }) => answered(Status::NotYet),
         Some(Command::Make { seed, count }) => {
             make(alloc, seed, count, steps_allowed(None), out)

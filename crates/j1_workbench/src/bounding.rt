@@ -30,7 +30,7 @@ fn write_number<O: Sink>(number: u64, out: &mut O) -> Status
 }
 
 /// Compiles a source file, and writes to out a number of instructions within which the run of its image ends on every input.
-#[tactic(auto, using(crate::proofs::Commands::built, crate::proofs::Commands::has_bytes, crate::proofs::Commands::is_valid, crate::proofs::Commands::bound_refused, crate::proofs::Commands::bound_without_memory, crate::proofs::Commands::bound_written, crate::proofs::Commands::bound_none))]
+#[tactic(auto, using(crate::proofs::Commands::built, crate::proofs::Commands::is_valid, crate::proofs::Commands::bound_refused, crate::proofs::Commands::bound_without_memory))]
 pub fn bound<F: Folder, O: Sink>(alloc: Global, source: &str, files: &mut F, out: &mut O) -> Answer
     ensures { (console : Stream) →
         let before = surroundings (folder (F.files files.old) (F.calls files.old) (F.read_faults files.old) (F.write_faults files.old) (F.absences files.old))

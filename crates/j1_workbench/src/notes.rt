@@ -162,6 +162,8 @@ pub fn write_note<N: Sink>(
         Status::WriteFault => write_line(notes, &[b"write fault"]),
         Status::OutOfMemory => write_line(notes, &[b"out of memory"]),
         Status::TooLarge => write_line(notes, &[file_named(words).as_bytes(), b": too large"]),
+        Status::Underflow => write_line(notes, &[b"underflow"]),
+        Status::Unbalanced => write_line(notes, &[b"unbalanced"]),
         Status::NotYet => write_line(notes, &[b"not yet"]),
         Status::BoundRefused(_, cause) => write_unbounded(notes, name, cause),
     }

@@ -14,7 +14,7 @@ use outside_io::Folder;
 use std::alloc::Global;
 
 /// The most bytes of a source.
-const MOST_SOURCE: usize = 65_536;
+pub(crate) const MOST_SOURCE: usize = 65_536;
 
 /// The program of a source text and its least certificate, or why the text is refused.
 pub fn certified_text(alloc: Global, text: &[u8]) -> Result<(Program, Certificate), Answer>

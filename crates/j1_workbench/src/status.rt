@@ -40,6 +40,10 @@ pub enum Status {
     OutOfMemory,
     /// The file has more bytes than its kind may have.
     TooLarge,
+    /// A word found too few data cells; from an evaluation alone.
+    Underflow,
+    /// A word found other return entries than it needs, or a body ended with entries left; from an evaluation alone.
+    Unbalanced,
     /// The command, or the source text, is not built yet.
     NotYet,
     /// The program has no step bound: the definition of the first item without one, and why.
@@ -65,6 +69,8 @@ pub fn status_number(status: &Status) -> u8
         Status::WriteFault => 11,
         Status::OutOfMemory => 12,
         Status::TooLarge => 13,
+        Status::Underflow => 14,
+        Status::Unbalanced => 14,
         Status::NotYet => 15,
         Status::BoundRefused(_, _) => 16,
     }

@@ -1,6 +1,7 @@
 // Worked calls of the workbench, with answers from outside.
 mod bounds;
 mod commands;
+mod evaluation;
 mod folders;
 mod images;
 mod library;

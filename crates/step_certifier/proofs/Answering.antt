@@ -1,12 +1,11 @@
 -- The answer where no item is refused: by what the items of MAIN cost.
-use Rattle.std.proofs.Common.{◌≡◌, ℕ, suc, ◌+◌, Bool, true, false, if◌then◌else◌, List, [], ◌∷◌, ◌++◌, length, map, Option, Some, None, refl, sym, ap, ◌∙◌, subst, arith}
+use Rattle.std.proofs.Common.{◌≡◌, ℕ, ◌+◌, Bool, true, false, if◌then◌else◌, List, map, Option, Some, None, refl, sym, ap, ◌∙◌, subst}
 use Rattle.std.specs.Prelude.{nat_lt, slice_index_or}
-use Rattle.forth_program.specs.Tree.{Nodes}
 use Rattle.forth_program.specs.Program.{SourceProgram}
 use Rattle.step_certifier.specs.declared.bound.BoundCause.TheVariants.{TooLarge}
 use Rattle.step_certifier.specs.Capped.{most_steps, capped}
-use Rattle.step_certifier.specs.Cost.{Other, cost, costs_with, costs}
-use Rattle.step_certifier.specs.Bound.{bound, refused_item, Answer, Bounded, Refused, answer_of, step_bound}
+use Rattle.step_certifier.specs.Cost.{costs}
+use Rattle.step_certifier.specs.Bound.{bound, refused_item, Bounded, Refused, answer_of, step_bound}
 use Rattle.step_certifier.proofs.Capping.{index_capped}
 
 -- steps, or none where there are too many

@@ -6,7 +6,7 @@ use Rattle.std.specs.Prelude.{max, slice_index_or}
 use Rattle.forth_program.specs.declared.item.Item.{Item}
 use Rattle.forth_program.specs.declared.item.Items.{Items}
 use Rattle.forth_program.specs.ItemTrees.{node_of, nodes_of, tree_of, arms_tree}
-use Rattle.forth_program.specs.Tree.{Node, Nodes, Arms, Do, QDo, Empty}
+use Rattle.forth_program.specs.Tree.{Node, Nodes, Do, QDo, Empty}
 use Rattle.forth_program.specs.Price.{turn_price}
 use Rattle.step_certifier.specs.Capped.{most_steps, capped}
 use Rattle.step_certifier.specs.Cost.{Last, Other, last_after, or_none, loop_turns, entered_turns, true_end, node_cost, cost, tests_cost, greatest_end, costs_with}
@@ -36,14 +36,14 @@ loop_cost : (first t u q r price body tp b : ℕ) → tp ≡ capped price → b 
 loop_cost first t u q r price body tp b hp hb hu hq hr =
     hr ∙ same_sum first q first (t * (price + body)) refl (again q (t * u) hq ∙ same_product t u (price + body) (again u (tp + b) hu ∙ same_sum tp b price body (again tp price hp) (again b body hb)))
 
-pub do_cost : (known : List ℕ) (last : Last) (node : Node) (body : Nodes) (plus : Bool) (t tp b u q r : ℕ) → node ≡ Do body plus →
-    t ≡ or_none (loop_turns last body plus) → tp ≡ capped (turn_price plus) → b ≡ capped (cost known Other body) →
+pub do_cost : (known : List ℕ) (last : Last) (node : Node) (body : Nodes) (plus : Bool) (t tp b u q r : ℕ) → node ≡ Do body plus → t ≡ or_none (loop_turns last body plus) → tp ≡ capped (turn_price plus) →
+    b ≡ capped (cost known Other body) →
     u ≡ capped (tp + b) → q ≡ capped (t * u) → r ≡ capped (8 + q) → r ≡ capped (node_cost known last node)
 do_cost known last node body plus t tp b u q r is ht hp hb hu hq hr =
     loop_cost 8 t u q r (turn_price plus) (cost known Other body) tp b hp hb hu hq hr ∙ ap (λ (n : ℕ). capped (8 + n * (turn_price plus + cost known Other body))) ht ∙ ap (λ (n : Node). capped (node_cost known last n)) (sym is)
 
-pub q_do_cost : (known : List ℕ) (last : Last) (node : Node) (body : Nodes) (plus : Bool) (k t tp b u q r : ℕ) → node ≡ QDo body plus →
-    k ≡ or_none (loop_turns last body plus) → t ≡ entered_turns last k → tp ≡ capped (turn_price plus) → b ≡ capped (cost known Other body) →
+pub q_do_cost : (known : List ℕ) (last : Last) (node : Node) (body : Nodes) (plus : Bool) (k t tp b u q r : ℕ) → node ≡ QDo body plus → k ≡ or_none (loop_turns last body plus) → t ≡ entered_turns last k → tp ≡ capped (turn_price plus) →
+    b ≡ capped (cost known Other body) →
     u ≡ capped (tp + b) → q ≡ capped (t * u) → r ≡ capped (12 + q) → r ≡ capped (node_cost known last node)
 q_do_cost known last node body plus k t tp b u q r is hk ht hp hb hu hq hr =
     loop_cost 12 t u q r (turn_price plus) (cost known Other body) tp b hp hb hu hq hr
@@ -53,8 +53,8 @@ q_do_cost known last node body plus k t tp b u q r is hk ht hp hb hu hq hr =
 more : (total n node rest r x : ℕ) → r ≡ capped (total + n) → n ≡ capped node → capped (total + (node + rest)) ≡ x → capped (r + rest) ≡ x
 more total n node rest r x e f g = omega (arith, e, f, g)
 
-pub item_passes : (known : List ℕ) (last after : Last) (items : List Item) (i : ℕ) (item : Item) (total n r x : ℕ) → i < length items →
-    item ≡ slice_index_or items i item → r ≡ capped (total + n) → n ≡ capped (node_cost known last (node_of item)) →
+pub item_passes : (known : List ℕ) (last after : Last) (items : List Item) (i : ℕ) (item : Item) (total n r x : ℕ) → i < length items → item ≡ slice_index_or items i item → r ≡ capped (total + n) →
+    n ≡ capped (node_cost known last (node_of item)) →
     after ≡ last_after last (node_of item) → capped (total + cost known last (nodes_of (drop i items))) ≡ x → capped (r + cost known after (nodes_of (drop (i + 1) items))) ≡ x
 item_passes known last after items i item total n r x below is e f g h =
     let split : drop i items ≡ item ∷ drop (i + 1) items = split_at items i item below ∙ ap (λ (j : Item). j ∷ drop (i + 1) items) (sym is) in
@@ -68,8 +68,8 @@ arm_split arms i arm below is = split_at arms i arm below ∙ ap (λ (j : Items 
 four_more : (t u n : ℕ) → u ≡ capped (t + 4) → t ≡ capped n → u ≡ capped (n + 4)
 four_more t u n e f = omega (arith, e, f)
 
-pub tests_pass : (known : List ℕ) (arms : List (Items × Items)) (i : ℕ) (arm : Items × Items) (total t u r x : ℕ) → i < length arms →
-    arm ≡ slice_index_or arms i arm → r ≡ capped (total + u) → u ≡ capped (t + 4) → t ≡ capped (cost known Other (tree_of arm.0)) →
+pub tests_pass : (known : List ℕ) (arms : List (Items × Items)) (i : ℕ) (arm : Items × Items) (total t u r x : ℕ) → i < length arms → arm ≡ slice_index_or arms i arm → r ≡ capped (total + u) → u ≡ capped (t + 4) →
+    t ≡ capped (cost known Other (tree_of arm.0)) →
     capped (total + tests_cost known (arms_tree (drop i arms))) ≡ x → capped (r + tests_cost known (arms_tree (drop (i + 1) arms))) ≡ x
 tests_pass known arms i arm total t u r x below is e f g h =
     more total u (cost known Other (tree_of arm.0) + 4) (tests_cost known (arms_tree (drop (i + 1) arms))) r x e (four_more t u (cost known Other (tree_of arm.0)) f g)
@@ -116,8 +116,7 @@ pub table_grows : (bodies : List Nodes) (d : ℕ) (body : Nodes) (low new : List
     (table : List ℕ) × (low ≡ map capped table) × (costs_with table (drop d bodies) ≡ all) → (table : List ℕ) × (new ≡ map capped table) × (costs_with table (drop (d + 1) bodies) ≡ all)
 table_grows bodies d body low new one all below is grown cost_is (table, low_is, rest) = (
   table ++ cost table Other body ∷ [],
-  grown ∙ ap (λ (l : List ℕ). l ++ one ∷ []) low_is
-      ∙ ap (λ (n : ℕ). map capped table ++ n ∷ []) (cost_is ∙ ap (λ (l : List ℕ). capped (cost l Other body)) low_is ∙ items_capped table Other body)
+  grown ∙ ap (λ (l : List ℕ). l ++ one ∷ []) low_is ∙ ap (λ (n : ℕ). map capped table ++ n ∷ []) (cost_is ∙ ap (λ (l : List ℕ). capped (cost l Other body)) low_is ∙ items_capped table Other body)
       ∙ sym (map-append capped table (cost table Other body ∷ [])),
   ap (λ (b : Nodes). costs_with (table ++ cost table Other b ∷ []) (drop (d + 1) bodies)) is ∙ sym (ap (costs_with table) (split_at bodies d Empty below)) ∙ rest,
 )

@@ -24,8 +24,8 @@ module _ (p : SourceProgram) (comes_back : ℕ → Bool) (known : List ℕ) (own
 
   abbrev NodeEnds : Node → Type 0
   NodeEnds node =
-      (a : Around) (last : Last) (h m : Height) (after : List Work) (most : ℕ) → node_refusal own last node ≡ None →
-      ((d : ℕ) → node_calls d node ≡ true → d < own → Calls d) → NodeLevel comes_back own a.out node h m → after_loop after ≡ a.loop_work →
+      (a : Around) (last : Last) (h m : Height) (after : List Work) (most : ℕ) → node_refusal own last node ≡ None → ((d : ℕ) → node_calls d node ≡ true → d < own → Calls d) → NodeLevel comes_back own a.out node h m →
+      after_loop after ≡ a.loop_work →
       Through p a after (last_after last node) m most → Leaves p a most → (comes_back own ≡ true → Exits p a.callers most) → Through p a (Todo node ∷ after) last h (node_cost known last node + most)
 
   abbrev ArmsEnd : Arms → Nodes → Type 0
@@ -68,8 +68,8 @@ module _ (p : SourceProgram) (comes_back : ℕ → Bool) (known : List ℕ) (own
   text_most text.Abort size (zero ∷ c) most = omega arith
   text_most text.Abort size (suc n ∷ c) most = omega arith
 
-  text_last : (kind : TextKind) (address size : ℕ) (last : Last) (a : Around) (after : List Work) (m : Height) (most : ℕ) →
-      Through p a after (last_after last (Text kind address size)) m most → Through p a after (last_after Other (Text kind address size)) m most
+  text_last : (kind : TextKind) (address size : ℕ) (last : Last) (a : Around) (after : List Work) (m : Height) (most : ℕ) → Through p a after (last_after last (Text kind address size)) m most →
+      Through p a after (last_after Other (Text kind address size)) m most
   text_last text.Address address size last a after m most t = t
   text_last text.Print address size last a after m most t = t
   text_last text.Abort address size last a after m most t = t
@@ -107,10 +107,9 @@ module _ (p : SourceProgram) (comes_back : ℕ → Bool) (known : List ℕ) (own
         (items_end other a Other h m after most (or_next (refusal own Other one) (refusal own Other other) r) (λ d is lt. e d (or_right (calls d one) (calls d other) is) lt) lev.1 al (forget p a after (last_of Other other) m most t) l x)
         (omega arith))
         (through_more p a (before one (closed_by other after)) Other h (cost known Other one + (true_end other + most)) (max (cost known Other one + true_end other) (cost known Other other) + most)
-        (items_end one a Other h m (closed_by other after) (true_end other + most) (or_first (refusal own Other one) (refusal own Other other) r)
-        (λ d is lt. e d (or_left (calls d one) (calls d other) is) lt) lev.0 (closed_leads p a h m after most other ∙ al)
-        (forget p a (closed_by other after) (last_of Other one) m (true_end other + most) (closed_through p a m m after most other t))
-        (leaves_more p a most (true_end other + most) l (le_sum (true_end other) most))
+        (items_end one a Other h m (closed_by other after) (true_end other + most) (or_first (refusal own Other one) (refusal own Other other) r) (λ d is lt. e d (or_left (calls d one) (calls d other) is) lt) lev.0
+        (closed_leads p a h m after most other ∙ al)
+        (forget p a (closed_by other after) (last_of Other one) m (true_end other + most) (closed_through p a m m after most other t)) (leaves_more p a most (true_end other + most) l (le_sum (true_end other) most))
         (λ back. exits_more p a.callers most (true_end other + most) (x back) (le_sum (true_end other) most)))
         (omega arith))))
         (omega arith)
@@ -157,8 +156,8 @@ module _ (p : SourceProgram) (comes_back : ℕ → Bool) (known : List ℕ) (own
         λ es c w k i o.
         same_first p (Todo (Case NoArm rest) ∷ after) (before rest (EndCase ∷ after)) es a.callers c w (tests_cost known NoArm + (1 + greatest_end known NoArm (cost known Other rest)) + most) (same_among rest EndCase after)
         (more p (at (before rest (EndCase ∷ after)) es a.callers c w) (cost known Other rest + (1 + most)) (tests_cost known NoArm + (1 + greatest_end known NoArm (cost known Other rest)) + most)
-        (ends a Other h m (EndCase ∷ after) (1 + most) s f lev al (forget p a (EndCase ∷ after) (last_of Other rest) m (1 + most) (case_step a m after most t))
-        (leaves_more p a most (1 + most) l (le_one most)) (λ back. exits_more p a.callers most (1 + most) (x back) (le_one most))
+        (ends a Other h m (EndCase ∷ after) (1 + most) s f lev al (forget p a (EndCase ∷ after) (last_of Other rest) m (1 + most) (case_step a m after most t)) (leaves_more p a most (1 + most) l (le_one most))
+        (λ back. exits_more p a.callers most (1 + most) (x back) (le_one most))
         es c w tt i o)
         (omega arith))
     arms_end (Arm tests body others) rest ends a h m after most r s e f lev al t l x =
@@ -166,8 +165,7 @@ module _ (p : SourceProgram) (comes_back : ℕ → Bool) (known : List ℕ) (own
         same_first p (Todo (Case (Arm tests body others) rest) ∷ after) (before tests (OfTest body others rest ∷ after)) es a.callers c w
         (tests_cost known (Arm tests body others) + (1 + greatest_end known (Arm tests body others) (cost known Other rest)) + most) (same_among tests (OfTest body others rest) after)
         (more p (at (before tests (OfTest body others rest ∷ after)) es a.callers c w)
-        (cost known Other tests
-        + (4 + (tests_cost known others + (1 + max (cost known Other body) (greatest_end known others (cost known Other rest))) + most)))
+        (cost known Other tests + (4 + (tests_cost known others + (1 + max (cost known Other body) (greatest_end known others (cost known Other rest))) + most)))
         (tests_cost known (Arm tests body others) + (1 + greatest_end known (Arm tests body others) (cost known Other rest)) + most)
         (items_end tests a Other h lev.0 (OfTest body others rest ∷ after) (4 + (tests_cost known others + (1 + max (cost known Other body) (greatest_end known others (cost known Other rest))) + most))
         (or_first (refusal own Other tests) (or_else (refusal own Other body) (arms_refusal own others)) r)
@@ -179,17 +177,12 @@ module _ (p : SourceProgram) (comes_back : ℕ → Bool) (known : List ℕ) (own
         (λ d is lt. e d (or_right (calls d tests) (calls d body || arms_call d others) (or_left (calls d body) (arms_call d others) is)) lt) lev.2 al
         (forget p a (EndOf ∷ after) (last_of Other body) m (1 + most) (end_of_step a m after most t)) (leaves_more p a most (1 + most) l (le_one most)) (λ back. exits_more p a.callers most (1 + most) (x back) (le_one most)))
         (omega arith))
-        (through_more p a (Todo (Case others rest) ∷ after) Other lev.0
-        (tests_cost known others + (1 + greatest_end known others (cost known Other rest)) + most)
+        (through_more p a (Todo (Case others rest) ∷ after) Other lev.0 (tests_cost known others + (1 + greatest_end known others (cost known Other rest)) + most)
         (tests_cost known others + (1 + max (cost known Other body) (greatest_end known others (cost known Other rest))) + most)
         (arms_end others rest ends a lev.0 m after most (or_next (refusal own Other body) (arms_refusal own others) (or_next (refusal own Other tests) (or_else (refusal own Other body) (arms_refusal own others)) r)) s
         (λ d is lt. e d (or_right (calls d tests) (calls d body || arms_call d others) (or_right (calls d body) (arms_call d others) is)) lt) f lev.3 al t l x)
         (omega arith))))
-        (leaves_more p a most (4 + (tests_cost known others + (1 + max (cost known Other body) (greatest_end known others (cost known Other rest))) + most)) l
-        (omega arith))
-        (λ back.
-        exits_more p a.callers most
-        (4 + (tests_cost known others + (1 + max (cost known Other body) (greatest_end known others (cost known Other rest))) + most)) (x back)
-        (omega arith))
+        (leaves_more p a most (4 + (tests_cost known others + (1 + max (cost known Other body) (greatest_end known others (cost known Other rest))) + most)) l (omega arith))
+        (λ back. exits_more p a.callers most (4 + (tests_cost known others + (1 + max (cost known Other body) (greatest_end known others (cost known Other rest))) + most)) (x back) (omega arith))
         es c w tt i o)
         (omega arith))

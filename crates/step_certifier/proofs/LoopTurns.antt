@@ -1,5 +1,5 @@
 -- The numbers of turns are those that loops make.
-use Rattle.std.proofs.Common.{◌≡◌, ◌≢◌, ℕ, zero, suc, ◌+◌, ◌-◌, ◌*◌, ◌/◌, ◌%◌, ◌<◌, ◌≤◌, ⊎_elim, Bool, true, false, if◌then◌else◌, Option, Some, None, refl, sym, ap, ◌∙◌, subst, arith}
+use Rattle.std.proofs.Common.{◌≡◌, ◌≢◌, ℕ, zero, suc, ◌+◌, ◌-◌, ◌*◌, ◌/◌, ◌%◌, ◌<◌, ◌≤◌, ⊎_elim, true, false, if◌then◌else◌, Option, Some, None, sym, ap, ◌∙◌, subst, arith}
 use Rattle.std.specs.Prelude.{pos, negsuc, nat_lt}
 use Rattle.std.proofs.Math.Nat.{suc-mul, mul-add, mul_comm, mul-div-le, div-mul-le_self, lt-mul-div-succ}
 use Rattle.std.proofs.lemmas.Bool.Decides.{nat_tests, leb_tells, eqb_tells}
@@ -88,10 +88,8 @@ makes_down limit step (suc k) index large small h i =
     let f : suc (suc k) * (65536 - step) ≡ suc k * (65536 - step) + (65536 - step) = suc-mul (suc k) (65536 - step) in
     let next : difference_of (sum_of index step) limit ≡ x - (65536 - step) = moved index limit step ∙ whole x step (k * (65536 - step)) (suc k * (65536 - step)) e (difference_small index limit) small h in (
       ap (λ z. crosses (signed x) z) (signed_large step large) ∙ stays_down x (65535 - step) (difference_small index limit) (over x step (k * (65536 - step)) (suc k * (65536 - step)) e small h),
-      makes_down limit step k (sum_of index step) large small
-          (less x step (difference_of (sum_of index step) limit) (k * (65536 - step)) (suc k * (65536 - step)) e next h)
-          (enough x step (difference_of (sum_of index step) limit) (k * (65536 - step)) (suc k * (65536 - step)) (suc (suc k) * (65536 - step)) e f next small h
-          i),
+      makes_down limit step k (sum_of index step) large small (less x step (difference_of (sum_of index step) limit) (k * (65536 - step)) (suc k * (65536 - step)) e next h)
+          (enough x step (difference_of (sum_of index step) limit) (k * (65536 - step)) (suc k * (65536 - step)) (suc (suc k) * (65536 - step)) e f next small h i),
     )
   where
     over : (x step m n : ℕ) → n ≡ m + (65536 - step) → step < 65536 → n ≤ x → suc (65535 - step) ≤ x

@@ -123,8 +123,8 @@ module _ (p : SourceProgram) (comes_back : ℕ → Bool) (known : List ℕ) (own
           (λ es' c' w' k j l. acts p (at (Turn body plus ∷ after) es' a.callers c' w') rest
           (turn_onward plus index rest ends (second (n * each) most) (λ c'' w'' crossed. again (one_less limit step n index left crossed) c'' w'') (Turn body plus ∷ after) es' c' w' k j l))
           (λ l v es' c' w' e j. more p (at after es' a.callers c' w') most (turn_price plus + rest)
-          (subst (λ q. Within p (at after q a.callers c' w') most) (sym (tails (Loop l v) (Loop limit index) es' e))
-          (t es c' w' tt (subst (λ q. At m q) (tails (Loop l v) (Loop limit index) es' e) j) o)) (weaker (turn_price plus) (n * each) most))
+          (subst (λ q. Within p (at after q a.callers c' w') most) (sym (tails (Loop l v) (Loop limit index) es' e)) (t es c' w' tt (subst (λ q. At m q) (tails (Loop l v) (Loop limit index) es' e) j) o))
+          (weaker (turn_price plus) (n * each) most))
           (λ back. exits_more p a.callers most (turn_price plus + rest) (x back) (weaker (turn_price plus) (n * each) most))
           (Loop limit index ∷ es) c w tt (raised_at h (Loop limit index) es i) (inl refl))
           (sums (cost known Other body) (turn_price plus) (n * each) (suc n * each) most (suc-mul n each))
@@ -161,8 +161,7 @@ module _ (p : SourceProgram) (comes_back : ℕ → Bool) (known : List ℕ) (own
           none : (z most : ℕ) → most ≤ 0 * z + most
           none z most = omega arith
 
-          of : (b : Bool) →
-              Onward p (if b then Goes (at after es a.callers k.0 w) else loop_begins body plus after (start ∷ limit ∷ k.0) (at work es a.callers c w))
+          of : (b : Bool) → Onward p (if b then Goes (at after es a.callers k.0 w) else loop_begins body plus after (start ∷ limit ∷ k.0) (at work es a.callers c w))
               ((if b then 0 else or_none (loop_turns (Two limit start) body plus)) * each + most)
           of true = more p (at after es a.callers k.0 w) most (0 * each + most) (t es k.0 w tt (same_at h m es same i) o) (none each most)
           of false = begun limit start es k.0 w known_turns i o

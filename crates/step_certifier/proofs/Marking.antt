@@ -1,5 +1,5 @@
 -- Marks of the definitions that are reached, and the first refusal among these.
-use Rattle.std.proofs.Common.{◌≡◌, ℕ, suc, ◌+◌, ◌-◌, ◌<◌, ◌≤◌, ◌||◌, ◌&&◌, Bool, true, false, if◌then◌else◌, List, [], ◌∷◌, length, drop, Option, Some, None, refl, sym, ap, ◌∙◌, subst, arith, drop-cons}
+use Rattle.std.proofs.Common.{◌≡◌, ℕ, suc, ◌+◌, ◌-◌, ◌<◌, ◌≤◌, ◌||◌, ◌&&◌, Bool, true, false, if◌then◌else◌, List, length, drop, Option, None, refl, sym, ap, ◌∙◌, subst, arith, drop-cons}
 use Rattle.std.specs.Prelude.{slice_index_or}
 use Rattle.forth_program.specs.Tree.{Nodes, Empty}
 use Rattle.step_certifier.specs.declared.bound.BoundCause.{BoundCause}
@@ -12,8 +12,7 @@ or_false false b = refl
 
 -- one definition more, before those that were gone through
 one_more : (main : ℕ) (bodies : List Nodes) (e k : ℕ) → e < length bodies →
-    reaches main e (drop e bodies) k
-    ≡ (reaches main (suc e) (drop (suc e) bodies) k || (reaches main (suc e) (drop (suc e) bodies) e && calls k (slice_index_or bodies e Empty)))
+    reaches main e (drop e bodies) k ≡ (reaches main (suc e) (drop (suc e) bodies) k || (reaches main (suc e) (drop (suc e) bodies) e && calls k (slice_index_or bodies e Empty)))
 one_more main bodies e k below = ap (λ (bs : List Nodes). reaches main e bs k) (drop-cons bodies e Empty below)
 
 module _ (main : ℕ) (bodies : List Nodes) where
@@ -36,8 +35,7 @@ module _ (main : ℕ) (bodies : List Nodes) where
       let reached : (k : ℕ) → k < length bodies → slice_index_or old k false ≡ reaches main (suc e) (drop (suc e) bodies) k = subst (λ (n : ℕ). Reached n old) (sym is) each in
       let off : reaches main (suc e) (drop (suc e) bodies) e ≡ false = sym (reached e here) ∙ marked in
       reached k below
-      ∙ sym
-      (one_more main bodies e k here ∙ ap (λ (b : Bool). reaches main (suc e) (drop (suc e) bodies) k || (b && calls k (slice_index_or bodies e Empty))) off
+      ∙ sym (one_more main bodies e k here ∙ ap (λ (b : Bool). reaches main (suc e) (drop (suc e) bodies) k || (b && calls k (slice_index_or bodies e Empty))) off
       ∙ or_false (reaches main (suc e) (drop (suc e) bodies) k) (calls k (slice_index_or bodies e Empty)))
 
   pub marks_called : (d : ℕ) (body : Nodes) (old new : List Bool) → 0 < d → d ≤ length bodies → Reached d old → slice_index_or old (d - 1) false ≡ true → length old ≡ length bodies →

@@ -1,5 +1,5 @@
 -- The run of an image ends within the bound of its program, since the source ends within that price.
-use Rattle.std.proofs.Common.{◌≡◌, ap, ◌∙◌}
+use Rattle.std.proofs.Common.{ap, ◌∙◌}
 use Rattle.forth_program.specs.Run.{end_of}
 use Rattle.forth_program.specs.Price.{price}
 use Rattle.j1_simulator.specs.Laws.{OnlyGrows}

@@ -6,8 +6,8 @@ use Rattle.forth_program.specs.Tree.{Nodes, Empty}
 use Rattle.forth_program.specs.State.{Frame, World}
 use Rattle.forth_program.specs.Program.{SourceProgram, body_of}
 use Rattle.forth_program.specs.Step.{before}
-use Rattle.forth_program.specs.Run.{first_state, first_world, source_run}
-use Rattle.forth_program.specs.Price.{price, spent}
+use Rattle.forth_program.specs.Run.{first_world, source_run}
+use Rattle.forth_program.specs.Price.{price}
 use Rattle.step_certifier.specs.declared.bound.BoundCause.{BoundCause}
 use Rattle.step_certifier.specs.declared.bound.BoundCause.TheVariants.{TooLarge}
 use Rattle.step_certifier.specs.Capped.{most_steps}
@@ -67,8 +67,8 @@ module _ (p : SourceProgram) (comes_back : ℕ → Bool) (level : LevelProgram p
 
   module _ (reached : ℕ → Bool) where
     table : (bodies : List Nodes) (number : ℕ) (known : List ℕ) → length known ≡ number → ((j : ℕ) → body_of p (number + j) ≡ slice_index_or bodies j Empty) → first_refusal reached number bodies ≡ None →
-        ((d : ℕ) → reaches p.main_body number bodies d ≡ true → reached d ≡ true) → Good number known (reaches p.main_body number bodies) →
-        p.main_body < number + length bodies → Runs p.main_body (slice_index_or (costs_with known bodies) p.main_body 0)
+        ((d : ℕ) → reaches p.main_body number bodies d ≡ true → reached d ≡ true) → Good number known (reaches p.main_body number bodies) → p.main_body < number + length bodies →
+        Runs p.main_body (slice_index_or (costs_with known bodies) p.main_body 0)
     table [] number known size are r up good lt = good p.main_body (eq-eqb p.main_body p.main_body refl) (omega (arith, lt))
     table (body ∷ bodies) number known size are r up good lt =
         let heads = head_refusal number (if reached number then refusal number Other body else None) (first_refusal reached (suc number) bodies) r in
@@ -85,16 +85,13 @@ module _ (p : SourceProgram) (comes_back : ℕ → Bool) (level : LevelProgram p
         subst (λ n. Runs n (slice_index_or (known ++ cost known Other body ∷ []) n 0)) (sym is)
         (own_runs body (let z : number ≡ number + 0 = omega arith in ap (body_of p) z ∙ are 0)
         (chosen (reached number) (refusal number Other body) (up number (or_left (reaches p.main_body (suc number) bodies number) (reaches p.main_body (suc number) bodies number && calls number body) on)) heads.0)
-        (λ n called before_it.
-        good n
-        (or_right (reaches p.main_body (suc number) bodies n) (reaches p.main_body (suc number) bodies number && calls n body)
-        (and_both (reaches p.main_body (suc number) bodies number) (calls n body) on called)) before_it)
+        (λ n called before_it. good n
+        (or_right (reaches p.main_body (suc number) bodies n) (reaches p.main_body (suc number) bodies number && calls n body) (and_both (reaches p.main_body (suc number) bodies number) (calls n body) on called)) before_it)
         number known size))
         (cases_lt d number))
         (omega (arith, lt))
       where
-        own_runs : (body : Nodes) → body_of p number ≡ body → refusal number Other body ≡ None →
-            ((n : ℕ) → calls n body ≡ true → n < number → Runs n (slice_index_or known n 0)) → (m : ℕ) (known' : List ℕ) → length known ≡ number →
+        own_runs : (body : Nodes) → body_of p number ≡ body → refusal number Other body ≡ None → ((n : ℕ) → calls n body ≡ true → n < number → Runs n (slice_index_or known n 0)) → (m : ℕ) (known' : List ℕ) → length known ≡ number →
             Runs number (slice_index_or (known ++ cost known Other body ∷ []) number 0)
         own_runs body is r called m known' size =
             subst (Runs number) (sym (ap (λ n. slice_index_or (known ++ cost known Other body ∷ []) n 0) (sym size) ∙ end_of known (cost known Other body)))

@@ -56,8 +56,8 @@ branches : step_bound (main (Literal 1 ∷ If (items (Literal 1 ∷ Plain Emit �
 branches = refl
 
 -- S" abc" TYPE, 3 SPACES, -1 SPACES, TYPE
-counted : (step_bound (main (Text text.Address 8200 3 ∷ Plain TypeOut ∷ [])) ≡ Bounded 291) × (step_bound (main (Literal 3 ∷ Plain Spaces ∷ [])) ≡ Bounded 171)
-    × (step_bound (main (Literal 65535 ∷ Plain Spaces ∷ [])) ≡ Bounded 51) × (step_bound (main (Plain TypeOut ∷ [])) ≡ Refused 0 cause.OpenBounds)
+counted : (step_bound (main (Text text.Address 8200 3 ∷ Plain TypeOut ∷ [])) ≡ Bounded 291) × (step_bound (main (Literal 3 ∷ Plain Spaces ∷ [])) ≡ Bounded 171) × (step_bound (main (Literal 65535 ∷ Plain Spaces ∷ [])) ≡ Bounded
+    51) × (step_bound (main (Plain TypeOut ∷ [])) ≡ Refused 0 cause.OpenBounds)
 counted = (refl, refl, refl, refl)
 
 -- 5 5 ?DO LOOP
@@ -65,11 +65,8 @@ left_out : step_bound (main (Literal 5 ∷ Literal 5 ∷ QDo Empty false ∷ [])
 left_out = refl
 
 -- 1 CASE 1 OF 65 EMIT ENDOF 2 OF 5 SPACES ENDOF 66 EMIT ENDCASE
-cases : step_bound
-    (main
-    (Literal 1
-    ∷ Case (Arm (items (Literal 1 ∷ [])) (items (Literal 65 ∷ Plain Emit ∷ [])) (Arm (items (Literal 2 ∷ [])) (items (Literal 5 ∷ Plain Spaces ∷ [])) NoArm))
-    (items (Literal 66 ∷ Plain Emit ∷ [])) ∷ [])) ≡ Bounded 266
+cases : step_bound (main (Literal 1 ∷ Case (Arm (items (Literal 1 ∷ [])) (items (Literal 65 ∷ Plain Emit ∷ [])) (Arm (items (Literal 2 ∷ [])) (items (Literal 5 ∷ Plain Spaces ∷ [])) NoArm)) (items (Literal 66 ∷ Plain Emit ∷ []))
+    ∷ [])) ≡ Bounded 266
 cases = refl
 
 -- the cause that stands first
@@ -89,14 +86,8 @@ too_large = refl
 abbrev unlevel : SourceProgram
 unlevel = record {
   names = [];
-  bodies =
-      items
-      (Literal 20 ∷ Literal 0
-      ∷ Do
-      (items
-      (Literal 1 ∷ Literal 0
-      ∷ Do (items (Plain Base ∷ Plain Fetch ∷ If (items (Literal 0 ∷ Plain Base ∷ Plain Store ∷ Plain Unloop ∷ [])) Empty ∷ [])) false ∷ Exit ∷ Literal 20
-      ∷ [])) true ∷ []) ∷ [];
+  bodies = items (Literal 20 ∷ Literal 0 ∷ Do (items (Literal 1 ∷ Literal 0 ∷ Do (items (Plain Base ∷ Plain Fetch ∷ If (items (Literal 0 ∷ Plain Base ∷ Plain Store ∷ Plain Unloop ∷ [])) Empty ∷ [])) false ∷ Exit ∷ Literal 20 ∷ [])) true
+      ∷ []) ∷ [];
   main_body = 0;
   tokens = [];
   data_start = 8192;

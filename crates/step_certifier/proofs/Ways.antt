@@ -69,8 +69,8 @@ module _ (p : SourceProgram) where
 
   -- ---- single steps
 
-  pub replied : (after : List Work) (es : List Entry) (cs : List Frame) (c : List ℕ) (w : World) (most : ℕ) (r : Reply (List ℕ)) →
-      ((c' : List ℕ) (w' : World) → Fin (at after es cs c' w') most) → Onward p (on_cells r (at after es cs c w)) most
+  pub replied : (after : List Work) (es : List Entry) (cs : List Frame) (c : List ℕ) (w : World) (most : ℕ) (r : Reply (List ℕ)) → ((c' : List ℕ) (w' : World) → Fin (at after es cs c' w') most) →
+      Onward p (on_cells r (at after es cs c w)) most
   replied after es cs c w most (Gives c' w') t = t c' w'
   replied after es cs c w most (Stops end w') t = tt
 
@@ -80,14 +80,14 @@ module _ (p : SourceProgram) where
   left_onward work [] (f ∷ cs) c w fs gs most x = x c w
 
   -- out of the body, where it comes back
-  pub end_onward : (comes_back : Bool) (h : Height) (work : List Work) (es : List Entry) (cs : List Frame) (c : List ℕ) (w : World) (most : ℕ) →
-      EndLevel comes_back h → At h es → (comes_back ≡ true → Exits cs most) → Onward p (unwound es cs (at work es cs c w)) most
+  pub end_onward : (comes_back : Bool) (h : Height) (work : List Work) (es : List Entry) (cs : List Frame) (c : List ℕ) (w : World) (most : ℕ) → EndLevel comes_back h → At h es → (comes_back ≡ true → Exits cs most) →
+      Onward p (unwound es cs (at work es cs c w)) most
   end_onward comes_back None work es cs c w most end i x = absurd i
   end_onward comes_back (Some n) work es cs c w most end i x = left_onward work es cs c w es cs most (x end)
 
   module _ (a : Around) (h m : Height) (after : List Work) (most : ℕ) where
-    pub word_onward : (word : Word) (last : Last) (es : List Entry) (c : List ℕ) (w : World) → word_refusal word last ≡ None → WordLevel word h m → At h es →
-        Over a.base es → Through a after Other m most → Onward p (word_step p word c es (at after es a.callers c w)) most
+    pub word_onward : (word : Word) (last : Last) (es : List Entry) (c : List ℕ) (w : World) → word_refusal word last ≡ None → WordLevel word h m → At h es → Over a.base es → Through a after Other m most →
+        Onward p (word_step p word c es (at after es a.callers c w)) most
     word_onward ToR last es [] w r lev i o t = tt
     word_onward ToR last es (x ∷ c) w r lev i o t = t (Cell x ∷ es) c w tt (same_at (raised h) m (Cell x ∷ es) lev (raised_at h (Cell x) es i)) o
     word_onward RFrom last [] c w r lev i o t = tt
@@ -113,14 +113,14 @@ module _ (p : SourceProgram) where
     word_onward word last es c w r lev i o t = replied after es a.callers c w most (meaning word c w) (λ c' w'. t es c' w' tt (same_at h m es lev i) o)
 
     -- a flag and both ways
-    pub flag_onward : (work on_zero other : List Work) (c : List ℕ) (es : List Entry) (d : List ℕ) (w : World) → At h es → Over a.base es →
-        Through a on_zero Other h most → Through a other Other h most → Onward p (on_flag c on_zero other (at work es a.callers d w)) most
+    pub flag_onward : (work on_zero other : List Work) (c : List ℕ) (es : List Entry) (d : List ℕ) (w : World) → At h es → Over a.base es → Through a on_zero Other h most → Through a other Other h most →
+        Onward p (on_flag c on_zero other (at work es a.callers d w)) most
     flag_onward work on_zero other [] es d w i o t u = tt
     flag_onward work on_zero other (zero ∷ c) es d w i o t u = t es c w tt i o
     flag_onward work on_zero other (suc n ∷ c) es d w i o t u = u es c w tt i o
 
-    pub of_onward : (body : Nodes) (others : Arms) (rest : Nodes) (work : List Work) (c : List ℕ) (es : List Entry) (d : List ℕ) (w : World) → At h es →
-        Over a.base es → Through a (before body (EndOf ∷ after)) Other h most → Through a (Todo (Case others rest) ∷ after) Other h most →
+    pub of_onward : (body : Nodes) (others : Arms) (rest : Nodes) (work : List Work) (c : List ℕ) (es : List Entry) (d : List ℕ) (w : World) → At h es → Over a.base es → Through a (before body (EndOf ∷ after)) Other h most →
+        Through a (Todo (Case others rest) ∷ after) Other h most →
         Onward p (of_chooses body others rest after c (at work es a.callers d w)) most
     of_onward body others rest work [] es d w i o t u = tt
     of_onward body others rest work (x ∷ []) es d w i o t u = tt
@@ -130,16 +130,16 @@ module _ (p : SourceProgram) where
         of true = t es c w tt i o
         of false = u es (y ∷ c) w tt i o
 
-    pub text_onward : (kind : TextKind) (address size : ℕ) (es : List Entry) (c : List ℕ) (w : World) → Same h m → At h es → Over a.base es →
-        Through a after (last_after Other (Text kind address size)) m most → Onward p (text_step kind address size c (at after es a.callers c w)) most
+    pub text_onward : (kind : TextKind) (address size : ℕ) (es : List Entry) (c : List ℕ) (w : World) → Same h m → At h es → Over a.base es → Through a after (last_after Other (Text kind address size)) m most →
+        Onward p (text_step kind address size c (at after es a.callers c w)) most
     text_onward text.Address address size es c w same i o t = t es (size ∷ address ∷ c) w (address ∷ c, refl) (same_at h m es same i) o
     text_onward text.Print address size es c w same i o t = replied after es a.callers c w most (type_out size address w ▸ λ _. Gives c) (λ c' w'. t es c' w' tt (same_at h m es same i) o)
     text_onward text.Abort address size es [] w same i o t = tt
     text_onward text.Abort address size es (zero ∷ c) w same i o t = t es c w tt (same_at h m es same i) o
     text_onward text.Abort address size es (suc n ∷ c) w same i o t = replied after es a.callers (suc n ∷ c) w most (type_out size address w ▸ λ _. Stops (Halted 2)) (λ c' w'. t es c' w' tt (same_at h m es same i) o)
 
-    pub leave_onward : (es : List Entry) (c : List ℕ) (w : World) (work : List Work) (fs : List Entry) → after_loop after ≡ a.loop_work → Lowers h a.out →
-        At h es → Over a.base es → Leaves a most → Onward p (leave after es (at work fs a.callers c w)) most
+    pub leave_onward : (es : List Entry) (c : List ℕ) (w : World) (work : List Work) (fs : List Entry) → after_loop after ≡ a.loop_work → Lowers h a.out → At h es → Over a.base es → Leaves a most →
+        Onward p (leave after es (at work fs a.callers c w)) most
     leave_onward [] c w work fs al lowers i o l = tt
     leave_onward (Cell x ∷ es) c w work fs al lowers i o l = tt
     leave_onward (Loop x y ∷ es) c w work fs al lowers i o l =

@@ -22,7 +22,7 @@ eval x --steps 20000001          | : MAIN ;                     |  |  | 1 bad wo
 make 65536 1                     | : MAIN ;                     |  |  | 1 bad words
 make 0 0                         | : MAIN ;                     |  |  | 1 bad words
 make 0 201                       | : MAIN ;                     |  |  | 1 bad words
-eval X                           | : MAIN ;                     |  |  | 15 not yet
+eval X                           | : MAIN ;                     |  |  | 2 X: missing
 build a b                        | : MAIN ;                     |  |  | 2 a: missing
 exec a --steps 0                 | : MAIN ;                     |  |  | 2 a: missing
 forth                            | : MAIN ;                     |  |  | 15 not yet
@@ -71,6 +71,8 @@ notes 4     | run source.fs     | : MAIN X ;                                   |
 notes 2     | run source.fs     | : MAIN 72 EMIT ABORT ;                       | x  | H  | 11 =j1:_
 files 1     | certify source.fs | : MAIN 72 EMIT ;                             | x  |    | 10 read fault
 writes 1    | certify source.fs | : MAIN 72 EMIT ;                             | x  |    | 11 write fault
+questions 2 | eval source.fs    | : MAIN 72 EMIT KEY EMIT KEY EMIT ;           | xy | Hx | 10 read fault
+writes 1    | eval source.fs    | : MAIN 72 EMIT KEY EMIT KEY EMIT ;           | xy |    | 11 write fault
 files 1     | bound source.fs   | : MAIN ;                                     | x  |    | 10 read fault
 files 2     | build source.fs b | : MAIN ;                                     | x  |    | 11 write fault
 writes 1    | bound source.fs   | : MAIN ;                                     | x  |    | 11 write fault

@@ -1,9 +1,108 @@
 // Folders: that of the system, in the empty folder that a test runs in, and one in memory.
-use super::rows::holds;
-use crate::{Status, workbench};
-use outside_io::{FileFault, Folder, MemFolder, MemSink, MemSource, PutFault, StdFolder};
+use super::limits::append_times;
+use super::notation::{bytes_in, field};
+use super::rows::{NEVER, Outside, has_files, words_in};
+use crate::{status_number, workbench};
+use outside_io::{FileFault, Folder, MemFolder, PutFault, StdFolder};
 use std::alloc::{AllocError, Global};
 use std::test::Fail;
+
+// A read, the name, the most bytes, and what it gives; or a write, the name, the bytes, and nothing. A fault is told by its name. `.` is the
+// one name that each folder has for itself.
+const SYSTEM: &str = r#"
+read  | none      | 10            | Absent
+read  | none/none | 10            | Absent
+read  | .         | 10            | Failed
+write | .         | x             | Failed
+write | none/none | x             | Failed
+write | a         | one line~     |
+read  | a         | 100           | one line~
+write | b         | ^00^FF^0D~^1A |
+read  | b         | 100           | ^00^FF^0D~^1A
+write | a         | one           |
+read  | a         | 100           | one
+write | b         |               |
+read  | b         | 100           |
+"#;
+
+// The fourth call fails.
+const MEMORY: &str = r#"
+write | b | two   |
+write | a | three |
+read  | a | 4     | thre
+write | c | four  | Failed
+"#;
+
+fn fault_told(alloc: Global, fault: FileFault) -> Result<Vec<u8>, AllocError> {
+    let told = format!(in alloc; "{fault:?}")?;
+    told.as_bytes().to_vec(alloc)
+}
+
+fn read_told<F: Folder>(
+    alloc: Global,
+    files: &mut F,
+    name: &str,
+    most: &str,
+) -> Result<Vec<u8>, AllocError> {
+    match files.read(alloc, name, most.parse::<usize>().unwrap_or(0)) {
+        Ok(bytes) => Ok(bytes),
+        Err(fault) => fault_told(alloc, fault),
+    }
+}
+
+fn write_told<F: Folder>(
+    alloc: Global,
+    files: &mut F,
+    name: &str,
+    text: &str,
+) -> Result<Vec<u8>, Fail> {
+    let bytes = bytes_in(alloc, text)?;
+    match files.write(alloc, name, bytes.as_slice()) {
+        Ok(()) => Ok(Vec::new(alloc)),
+        Err(PutFault::Failed) => bytes_in(alloc, "Failed"),
+        Err(PutFault::OutOfMemory) => bytes_in(alloc, "OutOfMemory"),
+    }
+}
+
+// Does the read or the write of a line, and tells one that gives anything else.
+fn do_line<F: Folder>(alloc: Global, files: &mut F, line: &str) -> Result<(), Fail> {
+    let mut rest = line;
+    let is_read = *field(&mut rest) == *"read";
+    let name = field(&mut rest);
+    let told = if is_read {
+        read_told(alloc, files, name, field(&mut rest))?
+    } else {
+        write_told(alloc, files, name, field(&mut rest))?
+    };
+    if *told.as_slice() == *bytes_in(alloc, field(&mut rest))?.as_slice() {
+        Ok(())
+    } else {
+        Ok(Err(line)?)
+    }
+}
+
+fn do_lines<F: Folder>(alloc: Global, files: &mut F, table: &str) -> Result<(), Fail> {
+    for line in table.trim_matches('\n').lines() {
+        do_line(alloc, files, line)?;
+    }
+    Ok(())
+}
+
+#[test]
+fn reads_and_writes_in_the_system(rt: HostRuntime) -> Result<(), Fail> {
+    do_lines(rt.alloc(), &mut StdFolder::new(&rt), SYSTEM)
+}
+
+#[test]
+fn keeps_files(rt: HostRuntime) -> Result<(), Fail> {
+    let alloc = rt.alloc();
+    let mut files = MemFolder::new(alloc, &[4])?;
+    files.put("a", b"one")?;
+    do_lines(alloc, &mut files, MEMORY)?;
+    let has_all = has_files(alloc, &files, "a = three & b = two & d")?;
+    assert!(rt; has_all);
+    Ok(())
+}
 
 // A number of bytes, none of which is the one before it.
 fn many_bytes(alloc: Global, count: usize) -> Result<Vec<u8>, AllocError> {
@@ -14,126 +113,51 @@ fn many_bytes(alloc: Global, count: usize) -> Result<Vec<u8>, AllocError> {
     Ok(bytes)
 }
 
+// Whether a read of at most so many bytes gives the first of these, and no fewer than there are.
+fn reads_front<F: Folder>(alloc: Global, files: &mut F, bytes: &[u8], most: usize) -> bool {
+    match files.read(alloc, "long", most) {
+        Ok(front) => front.len() == most.min(bytes.len()) && bytes.starts_with(front.as_slice()),
+        Err(_) => false,
+    }
+}
+
 #[test]
 fn reads_up_to_a_limit(rt: HostRuntime) -> Result<(), Fail> {
     let alloc = rt.alloc();
     let bytes = many_bytes(alloc, 40_000)?;
     let mut files = StdFolder::new(&rt);
-    assert_eq!(rt; files.write(alloc, "long", bytes.as_slice()), Ok(()));
-    for (most, count) in [
-        (0usize, 0usize),
-        (1, 1),
-        (4096, 4096),
-        (39_999, 39_999),
-        (40_000, 40_000),
-        (40_001, 40_000),
-        (65_537, 40_000),
-    ] {
-        match files.read(alloc, "long", most) {
-            Ok(front) => {
-                assert_eq!(rt; front.len(), count);
-                assert!(rt; bytes.as_slice().starts_with(front.as_slice()), "{most}");
-            }
-            Err(fault) => assert!(rt; false, "{most}: {fault:?}"),
-        }
+    let wrote = files.write(alloc, "long", bytes.as_slice()).is_ok();
+    assert!(rt; wrote);
+    for most in [0, 1, 4096, 39_999, 40_000, 40_001, 65_537] {
+        let is_front = reads_front(alloc, &mut files, bytes.as_slice(), most);
+        assert!(rt; is_front, "{most}");
     }
     Ok(())
 }
 
-// The one name that each folder has for itself.
-const ITSELF: &str = ".";
-
-#[test]
-fn tells_absent_from_failed(rt: HostRuntime) {
-    let alloc = rt.alloc();
-    let mut files = StdFolder::new(&rt);
-    for (name, wanted) in [
-        ("none", FileFault::Absent),
-        ("none/none", FileFault::Absent),
-        (ITSELF, FileFault::Failed),
-    ] {
-        match files.read(alloc, name, 10) {
-            Ok(_) => assert!(rt; false, "{name}"),
-            Err(fault) => assert_eq!(rt; fault, wanted, "{name}"),
-        }
-    }
-    for name in [ITSELF, "none/none"] {
-        assert_eq!(rt;
-            files.write(alloc, name, b"x"),
-            Err(PutFault::Failed),
-            "{name}"
-        );
-    }
-}
-
-#[test]
-fn reads_what_was_written(rt: HostRuntime) -> Result<(), Fail> {
-    let alloc = rt.alloc();
-    let mut files = StdFolder::new(&rt);
-    let rows: [(&str, &[u8]); 4] = [
-        ("a", b"one line\n"),
-        ("b", b"\0\xff\r\n\x1a"),
-        ("a", b"one"),
-        ("b", b""),
-    ];
-    for (name, bytes) in rows {
-        assert_eq!(rt; files.write(alloc, name, bytes), Ok(()), "{name}");
-        match files.read(alloc, name, 100) {
-            Ok(held) => assert_eq!(rt; held.as_slice(), bytes, "{name}"),
-            Err(fault) => assert!(rt; false, "{name}: {fault:?}"),
-        }
-    }
-    Ok(())
-}
-
-// The answer to `run NAME` in the folder of the system, for a name of so many bytes.
-fn run_name(alloc: Global, rt: &HostRuntime, count: usize) -> Result<Status, AllocError> {
-    let mut name = String::new(alloc);
-    for _byte in 0..count {
-        name.push('n')?;
-    }
-    let words = [String::from_str(alloc, "run")?, name];
-    let mut files = StdFolder::new(rt);
-    let mut console = MemSource::new(alloc, b"", &[])?;
-    let mut out = MemSink::new(alloc, 10, &[])?;
-    let mut notes = MemSink::new(alloc, 1000, &[])?;
-    Ok(workbench(
+// The exit status of a run of a file whose name has so many bytes, in the folder of the system.
+fn run_name(alloc: Global, rt: &HostRuntime, count: u32) -> Result<u8, AllocError> {
+    let mut line = String::from_str(alloc, "run ")?;
+    append_times(&mut line, "n", count)?;
+    let words = words_in(alloc, line.as_str())?;
+    let mut met = Outside::new(alloc, b"", NEVER)?;
+    let status = workbench(
         alloc,
-        &words,
-        &mut files,
-        &mut console,
-        &mut out,
-        &mut notes,
-    ))
+        words.as_slice(),
+        &mut StdFolder::new(rt),
+        &mut met.console,
+        &mut met.out,
+        &mut met.notes,
+    );
+    Ok(status_number(&status))
 }
 
+// A name of at most 255 bytes is missing, and a longer one is no word.
 #[test]
 fn takes_names_of_255_bytes(rt: HostRuntime) -> Result<(), Fail> {
-    for (count, wanted) in [
-        (1usize, Status::Missing),
-        (255, Status::Missing),
-        (256, Status::BadWords),
-    ] {
-        let status = run_name(rt.alloc(), &rt, count)?;
-        assert_eq!(rt; status, wanted, "{count}");
+    for (count, wanted) in [(1u32, 2u8), (255, 2), (256, 1)] {
+        let number = run_name(rt.alloc(), &rt, count)?;
+        assert_eq!(rt; number, wanted, "{count}");
     }
-    Ok(())
-}
-
-#[test]
-fn keeps_files(rt: HostRuntime) -> Result<(), Fail> {
-    let alloc = rt.alloc();
-    let mut files = MemFolder::new(alloc, &[4])?;
-    files.put("a", b"one")?;
-    assert_eq!(rt; files.write(alloc, "b", b"two"), Ok(()));
-    assert_eq!(rt; files.write(alloc, "a", b"three"), Ok(()));
-    match files.read(alloc, "a", 4) {
-        Ok(bytes) => assert_eq!(rt; bytes.as_slice(), b"thre".as_slice()),
-        Err(fault) => assert!(rt; false, "{fault:?}"),
-    }
-    assert_eq!(rt; files.write(alloc, "c", b"four"), Err(PutFault::Failed));
-    assert!(rt; holds(&files, "a", b"three"));
-    assert!(rt; holds(&files, "b", b"two"));
-    assert!(rt; !holds(&files, "d", b""));
     Ok(())
 }

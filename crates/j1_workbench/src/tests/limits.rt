@@ -31,7 +31,8 @@ _ 65536                                             |        | 3 source token 1:
 _ 65537                                             |        | 13 source.fs: too large
 "#;
 
-fn append_times(text: &mut String, piece: &str, count: u32) -> Result<(), AllocError> {
+/// Appends a text so many times.
+pub(super) fn append_times(text: &mut String, piece: &str, count: u32) -> Result<(), AllocError> {
     for _ in 0..count {
         text.push_str(piece)?;
     }

@@ -6,27 +6,30 @@ use outside_io::{MemSink, MemSource};
 use std::alloc::{AllocError, Global};
 use std::test::Fail;
 
-/// What driving code needs: its cells, for how many instructions, its input, and the numbers of the questions that fail.
+/// For how many instructions code is driven, its input, its finish, and the numbers of the questions and of the writes that fail.
 #[derive(Clone, Copy)]
 pub(super) struct Drive<'a> {
-    pub code: &'a [u16],
     pub steps: u16,
-    pub input: &'a [u8],
-    pub questions: &'a [u32],
+    pub input: &'a str,
+    pub finish: &'a str,
+    pub questions: [u32; 1],
+    pub writes: [u32; 1],
 }
 
 fn drive_code(
     alloc: Global,
-    code: &Drive,
+    code: &[u16],
+    way: &Drive,
     out: &mut MemSink,
-) -> Result<Result<Finish, DriveError>, AllocError> {
-    if code.code.len() > 4096 {
-        return Err(AllocError);
+) -> Result<Result<Finish, DriveError>, Fail> {
+    if code.len() > 4096 {
+        Err(AllocError)?;
     }
-    let image = Image::new(alloc, code.code, &[10, 0, 96, 32, 128, 32])?;
+    let image = Image::new(alloc, code, &[10, 0, 96, 32, 128, 32])?;
     let mut machine = Machine::new(alloc, &image)?;
-    let mut console = MemSource::new(alloc, code.input, code.questions)?;
-    Ok(drive(&mut machine, u64::from(code.steps), &mut console, out))
+    let input = bytes_in(alloc, way.input)?;
+    let mut console = MemSource::new(alloc, input.as_slice(), &way.questions)?;
+    Ok(drive(&mut machine, u64::from(way.steps), &mut console, out))
 }
 
 fn end_told(alloc: Global, end: End) -> Result<String, AllocError> {
@@ -46,18 +49,17 @@ fn finish_told(alloc: Global, drove: Result<Finish, DriveError>) -> Result<Strin
     }
 }
 
-/// Whether code that is driven, where writes with these numbers fail, prints this and has this finish.
+/// Whether code that is driven prints this and has its finish.
 pub(super) fn drives(
     alloc: Global,
-    code: &Drive,
-    writes: &[u32],
+    code: &[u16],
+    way: &Drive,
     printed: &[u8],
-    finish: &str,
-) -> Result<bool, AllocError> {
-    let mut out = MemSink::new(alloc, 1000, writes)?;
-    let drove = drive_code(alloc, code, &mut out)?;
+) -> Result<bool, Fail> {
+    let mut out = MemSink::new(alloc, 1000, &way.writes)?;
+    let drove = drive_code(alloc, code, way, &mut out)?;
     let told = finish_told(alloc, drove)?;
-    Ok(*out.held() == *printed && *told.as_str() == *finish)
+    Ok(*out.held() == *printed && *told.as_str() == *way.finish)
 }
 
 // The cells of an image, the instructions that it may make, its input, what it prints, its finish, and the numbers of the questions and of
@@ -95,18 +97,16 @@ fn drive_row(alloc: Global, line: &str) -> Result<(), Fail> {
     let mut rest = line;
     let code = cells_in(alloc, field(&mut rest), 16)?;
     let steps = number_in(field(&mut rest));
-    let input = bytes_in(alloc, field(&mut rest))?;
+    let input = field(&mut rest);
     let printed = bytes_in(alloc, field(&mut rest))?;
-    let finish = field(&mut rest);
-    let questions = [u32::from(number_in(field(&mut rest)))];
-    let writes = [u32::from(number_in(field(&mut rest)))];
-    let drive = Drive {
-        code: code.as_slice(),
+    let way = Drive {
         steps,
-        input: input.as_slice(),
-        questions: &questions,
+        input,
+        finish: field(&mut rest),
+        questions: [u32::from(number_in(field(&mut rest)))],
+        writes: [u32::from(number_in(field(&mut rest)))],
     };
-    if drives(alloc, &drive, &writes, printed.as_slice(), finish)? {
+    if drives(alloc, code.as_slice(), &way, printed.as_slice())? {
         Ok(())
     } else {
         Ok(Err(line)?)
@@ -125,13 +125,15 @@ fn drives_images(rt: HostRuntime) -> Result<(), Fail> {
 #[test]
 fn writes_a_full_buffer(rt: HostRuntime) -> Result<(), Fail> {
     let mut out = MemSink::new(rt.alloc(), 1000, &[2])?;
-    let drive = Drive {
-        code: &[0x8041, 0xC000, 0x6023, 0x6103],
+    let way = Drive {
         steps: 5000,
-        input: b"",
-        questions: &[],
+        input: "",
+        finish: "",
+        questions: [0],
+        writes: [0],
     };
-    let drove = drive_code(rt.alloc(), &drive, &mut out)?;
+    let code = [0x8041, 0xC000, 0x6023, 0x6103];
+    let drove = drive_code(rt.alloc(), &code, &way, &mut out)?;
     assert_eq!(rt; drove, Err(DriveError::Write));
     assert_eq!(rt; out.held().len(), 512);
     Ok(())

@@ -175,26 +175,29 @@ fn append_left(bytes: &mut Vec<u8>, cells: &[u16]) -> Result<(), AllocError> {
     append_cells(bytes, cells)
 }
 
+// What the code of a phrase prints.
+fn printed_of(alloc: Global, phrase: &Phrase, left: &[u16]) -> Result<Vec<u8>, Fail> {
+    let mut printed = bytes_in(alloc, phrase.printed)?;
+    if phrase.answer.is_empty() {
+        append_left(&mut printed, left)?;
+    }
+    Ok(printed)
+}
+
 // Drives the code of a phrase.
 fn drives_phrase(alloc: Global, phrase: &Phrase) -> Result<bool, Fail> {
     let left = cells_in(alloc, phrase.left, 10)?;
-    let mut printed = bytes_in(alloc, phrase.printed)?;
-    let finish = match phrase.answer.split_once(' ') {
-        Some((_, finish)) => finish,
-        None => {
-            append_left(&mut printed, left.as_slice())?;
-            "halted 0"
-        }
-    };
+    let printed = printed_of(alloc, phrase, left.as_slice())?;
     let code = code_of(alloc, phrase.text, left.len())?;
-    let input = bytes_in(alloc, phrase.input)?;
-    let drive = Drive {
-        code: code.as_slice(),
+    let (_number, finish) = phrase.answer.split_once(' ').unwrap_or(("", "halted 0"));
+    let way = Drive {
         steps: 999,
-        input: input.as_slice(),
-        questions: &[],
+        input: phrase.input,
+        finish,
+        questions: [0],
+        writes: [0],
     };
-    Ok(drives(alloc, &drive, &[], printed.as_slice(), finish)?)
+    drives(alloc, code.as_slice(), &way, printed.as_slice())
 }
 
 #[test]

@@ -89,26 +89,32 @@ fn told(alloc: Global, reader: &mut Reader, call: &str) -> Result<String, AllocE
     token_told(alloc, answer, reader.count())
 }
 
+fn is_told(
+    alloc: Global,
+    reader: &mut Reader,
+    call: &str,
+    wanted: &[u8],
+) -> Result<bool, AllocError> {
+    Ok(*told(alloc, reader, call)?.as_bytes() == *wanted)
+}
+
 // Whether the reader gives a refusal by every call.
 fn stays_refused(alloc: Global, reader: &mut Reader, refusal: &[u8]) -> Result<bool, AllocError> {
     for call in "next name string".split(' ') {
-        if *told(alloc, reader, call)?.as_bytes() != *refusal {
+        if !is_told(alloc, reader, call, refusal)? {
             return Ok(false);
         }
     }
     Ok(true)
 }
 
+// Whether a call gives its answer. A refusal stands for good.
 fn answers(alloc: Global, reader: &mut Reader, call: &str) -> Result<bool, Fail> {
     let (call, wanted) = call.split_once('=').ok_or("no call")?;
     let wanted = bytes_in(alloc, wanted.trim_ascii())?;
-    if *told(alloc, reader, call.trim_ascii())?.as_bytes() != *wanted.as_slice() {
-        return Ok(false);
-    }
-    if !wanted.as_slice().starts_with(b"fails") {
-        return Ok(true);
-    }
-    Ok(stays_refused(alloc, reader, wanted.as_slice())?)
+    let is_wanted = is_told(alloc, reader, call.trim_ascii(), wanted.as_slice())?;
+    let is_refused = wanted.as_slice().starts_with(b"fails");
+    Ok(is_wanted && (!is_refused || stays_refused(alloc, reader, wanted.as_slice())?))
 }
 
 // Whether the calls on this text, in their order, give the answers that are wanted.

@@ -60,19 +60,25 @@ impl Outside {
     }
 }
 
+/// The words of a line.
+pub(super) fn words_in(alloc: Global, line: &str) -> Result<Vec<String>, AllocError> {
+    let mut words = Vec::new(alloc);
+    for word in line.split_whitespace() {
+        words.push(String::from_str(alloc, word.trim_matches('_'))?)?;
+    }
+    Ok(words)
+}
+
 /// One call with these words.
 pub(super) fn call(
     alloc: Global,
     outside: &mut Outside,
     words: &str,
 ) -> Result<Status, AllocError> {
-    let mut list = Vec::new(alloc);
-    for word in words.split_whitespace() {
-        list.push(String::from_str(alloc, word.trim_matches('_'))?)?;
-    }
+    let words = words_in(alloc, words)?;
     Ok(workbench(
         alloc,
-        list.as_slice(),
+        words.as_slice(),
         &mut outside.files,
         &mut outside.console,
         &mut outside.out,
@@ -80,14 +86,17 @@ pub(super) fn call(
     ))
 }
 
+fn put_file(alloc: Global, files: &mut MemFolder, name: &str, text: &str) -> Result<(), Fail> {
+    let bytes = bytes_in(alloc, text.trim_ascii())?;
+    files.put(name.trim_ascii(), bytes.as_slice())?;
+    Ok(())
+}
+
 // Puts the files of a list into a folder.
 fn put_files(alloc: Global, files: &mut MemFolder, list: &str) -> Result<(), Fail> {
     for file in list.split('&') {
         if let Some((name, text)) = file.split_once('=') {
-            files.put(
-                name.trim_ascii(),
-                bytes_in(alloc, text.trim_ascii())?.as_slice(),
-            )?;
+            put_file(alloc, files, name, text)?;
         }
     }
     Ok(())
@@ -102,15 +111,16 @@ fn has_file(alloc: Global, files: &MemFolder, file: &str) -> Result<bool, Fail> 
     Ok(holds(files, name.trim_ascii(), bytes.as_slice()))
 }
 
-/// Whether a folder has a file with these bytes.
-pub(super) fn holds(files: &MemFolder, name: &str, bytes: &[u8]) -> bool {
+// Whether a folder has a file with these bytes.
+fn holds(files: &MemFolder, name: &str, bytes: &[u8]) -> bool {
     match files.file(name) {
         Some(held) => *held == *bytes,
         None => false,
     }
 }
 
-fn has_files(alloc: Global, files: &MemFolder, list: &str) -> Result<bool, Fail> {
+/// Whether a folder has the files of a list.
+pub(super) fn has_files(alloc: Global, files: &MemFolder, list: &str) -> Result<bool, Fail> {
     for file in list.split('&') {
         if !has_file(alloc, files, file)? {
             return Ok(false);
@@ -163,12 +173,17 @@ fn call_all(alloc: Global, outside: &mut Outside, words: &str) -> Result<Status,
     Ok(status)
 }
 
+// What a row meets, before its calls.
+fn met_by(alloc: Global, row: &Row, fails: Fails) -> Result<Outside, Fail> {
+    let mut met = Outside::new(alloc, bytes_in(alloc, row.console)?.as_slice(), fails)?;
+    put_file(alloc, &mut met.files, "source.fs", row.source)?;
+    put_files(alloc, &mut met.files, row.files)?;
+    Ok(met)
+}
+
 /// Does the calls of a row, of which some fail outside, and tells a row that leaves anything else.
 pub(super) fn run_row(alloc: Global, row: &Row, fails: Fails) -> Result<(), Fail> {
-    let mut met = Outside::new(alloc, bytes_in(alloc, row.console)?.as_slice(), fails)?;
-    met.files
-        .put("source.fs", bytes_in(alloc, row.source)?.as_slice())?;
-    put_files(alloc, &mut met.files, row.files)?;
+    let mut met = met_by(alloc, row, fails)?;
     let status = call_all(alloc, &mut met, row.words)?;
     if leaves(alloc, row, &met, status)? {
         Ok(())

@@ -1,7 +1,6 @@
 use Rattle.std.proofs.Common.{rules, refl}
-use Rattle.j1_workbench.specs.Words.{Evaluate}
 use Rattle.j1_workbench.specs.Surroundings.{stream, folder}
-use Rattle.j1_workbench.proofs.Commands.{does_build, does_list, does_assemble, does_certify, does_bound, does_make, does_not_yet}
+use Rattle.j1_workbench.proofs.Commands.{does_build, does_list, does_assemble, does_certify, does_bound, does_evaluate, does_make, does_not_yet}
 use Rattle.j1_workbench.proofs.answering.answer.Goals as goal
 
 pub returns-in-Some-Certify : goal.returns-in-Some-Certify
@@ -28,7 +27,7 @@ returns-in-Some-Assemble g c =
     (c.assemble_file.ensures (stream (g.C.Source.left c.args.console.now) (g.C.Source.calls c.args.console.now) (g.C.Source.faults c.args.console.now)) (stream (g.O.Sink.held c.args.out.now) (g.O.Sink.calls c.args.out.now) (g.O.Sink.faults c.args.out.now)))
 
 pub returns-in-Some-Evaluate : goal.returns-in-Some-Evaluate
-returns-in-Some-Evaluate g c = does_not_yet _ (Evaluate c.in-Some-Evaluate.field-0-0.now c.in-Some-Evaluate.field-0-1) _ c.answered-in-Some-Evaluate.result (search rules) refl c.answered-in-Some-Evaluate.ensures
+returns-in-Some-Evaluate g c = does_evaluate _ c.in-Some-Evaluate.source.now c.in-Some-Evaluate.steps c.steps_allowed-in-Some-Evaluate.result _ _ _ _ (search rules) c.steps_allowed-in-Some-Evaluate.ensures c.evaluate_source.ensures
 
 pub returns-in-Some-Make : goal.returns-in-Some-Make
 returns-in-Some-Make g c =

@@ -1,6 +1,6 @@
 use Rattle.std.proofs.Common.{map, string_bytes, [], ◌∷◌, refl, ap, ◌∙◌, rules}
 use Rattle.std.specs.Prelude.{codes}
-use Rattle.j1_workbench.specs.declared.status.Status.TheVariants.{BadWords, StepsUsed, InputEnded, Outside, BadImage, BadListing, WriteFault, TooLarge}
+use Rattle.j1_workbench.specs.declared.status.Status.TheVariants.{BadWords, StepsUsed, InputEnded, Outside, BadImage, BadListing, WriteFault, TooLarge, Underflow, Unbalanced}
 use Rattle.j1_workbench.specs.Notes.{line, named}
 use Rattle.j1_workbench.proofs.SinkContents.{noted}
 use Rattle.j1_workbench.proofs.notes.write_note.Goals as goal
@@ -30,3 +30,9 @@ returns-in-BadImage-clause-bytes g c = noted _ _ _ (map string_bytes c.args.word
 
 pub returns-in-BadListing-clause-bytes : goal.returns-in-BadListing-clause-bytes
 returns-in-BadListing-clause-bytes g c = noted _ _ _ (map string_bytes c.args.words.now) (named c.args.name.now) c.args.status (BadListing c.in-BadListing.line) _ c.in-BadListing.is (search rules) c.write_line-in-BadListing.ensures.bytes
+
+pub returns-in-Underflow-clause-bytes : goal.returns-in-Underflow-clause-bytes
+returns-in-Underflow-clause-bytes g c = noted _ _ _ (map string_bytes c.args.words.now) (named c.args.name.now) c.args.status Underflow _ c.in-Underflow.is refl c.write_line-in-Underflow.ensures.bytes
+
+pub returns-in-Unbalanced-clause-bytes : goal.returns-in-Unbalanced-clause-bytes
+returns-in-Unbalanced-clause-bytes g c = noted _ _ _ (map string_bytes c.args.words.now) (named c.args.name.now) c.args.status Unbalanced _ c.in-Unbalanced.is refl c.write_line-in-Unbalanced.ensures.bytes

@@ -14,6 +14,5 @@ loop-d-preserved c =
           (without_refusal (reaches c.args.program.now.main_body 0 c.args.program.now.bodies) c.loop-d.d (refusal c.loop-d.d Other (slice_index_or c.args.program.now.bodies c.loop-d.d Empty)) (search rules)) c.loop-d.invariant
       | else-marks-d w ↦ passes (reaches c.args.program.now.main_body 0 c.args.program.now.bodies) c.args.program.now.bodies c.loop-d.d _ (search rules)
           (not_reached (reaches c.args.program.now.main_body 0 c.args.program.now.bodies) c.loop-d.d (slice_index_or c.args.marks.now c.loop-d.d false)
-          (refusal c.loop-d.d Other (slice_index_or c.args.program.now.bodies c.loop-d.d Empty)) (c.requires.each c.loop-d.d (search rules))
-          w.if-marks-d.false) c.loop-d.invariant
+          (refusal c.loop-d.d Other (slice_index_or c.args.program.now.bodies c.loop-d.d Empty)) (c.requires.each c.loop-d.d (search rules)) w.if-marks-d.false) c.loop-d.invariant
     ]

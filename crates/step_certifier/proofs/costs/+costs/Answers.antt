@@ -7,26 +7,22 @@ use Rattle.step_certifier.proofs.costs.+costs.Goals as goal
 pub items_cost-loop-item-preserved : goal.items_cost-loop-item-preserved
 items_cost-loop-item-preserved t c = record {
   within = (let e = c.sum-total.ensures.value in omega (arith, e));
-  rest =
-      item_passes _ (last_of c.loop-item.last) (last_of c.after-last.result) c.args.items.now c.loop-item.item-index c.item-item.result c.loop-item.total
-      c.item_cost.result c.sum-total.result _ (search rules) (search rules) c.sum-total.ensures.value c.item_cost.ensures c.after-last.ensures
-      c.loop-item.invariant.rest;
+  rest = item_passes _ (last_of c.loop-item.last) (last_of c.after-last.result) c.args.items.now c.loop-item.item-index c.item-item.result c.loop-item.total c.item_cost.result c.sum-total.result _ (search rules) (search rules)
+      c.sum-total.ensures.value c.item_cost.ensures c.after-last.ensures c.loop-item.invariant.rest;
 }
 
 pub tests_cost-loop-arm-preserved : goal.tests_cost-loop-arm-preserved
 tests_cost-loop-arm-preserved t c = record {
   within = (let e = c.sum-total.ensures.value in omega (arith, e));
-  rest =
-      tests_pass _ c.args.arms.now c.loop-arm.arm-index c.arm-item.result c.loop-arm.total c.items_cost.result c.sum.result c.sum-total.result _
-      (search rules) (search rules) c.sum-total.ensures.value c.sum.ensures.value (search rules) c.loop-arm.invariant.rest;
+  rest = tests_pass _ c.args.arms.now c.loop-arm.arm-index c.arm-item.result c.loop-arm.total c.items_cost.result c.sum.result c.sum-total.result _ (search rules) (search rules) c.sum-total.ensures.value c.sum.ensures.value
+      (search rules) c.loop-arm.invariant.rest;
 }
 
 pub greatest_end-loop-arm-preserved : goal.greatest_end-loop-arm-preserved
 greatest_end-loop-arm-preserved t c = record {
   within = ends_within _ c.loop-arm.greatest c.items_cost.result c.greater-greatest.result _ c.loop-arm.invariant.within c.greater-greatest.ensures.value c.items_cost.ensures;
-  rest =
-      ends_pass _ c.args.arms.now c.loop-arm.arm-index c.arm-item.result c.loop-arm.greatest c.items_cost.result c.greater-greatest.result _ (search rules)
-      (search rules) c.greater-greatest.ensures.value (search rules) c.loop-arm.invariant.rest;
+  rest = ends_pass _ c.args.arms.now c.loop-arm.arm-index c.arm-item.result c.loop-arm.greatest c.items_cost.result c.greater-greatest.result _ (search rules) (search rules) c.greater-greatest.ensures.value (search rules)
+      c.loop-arm.invariant.rest;
 }
 
 pub greatest_end-returns : goal.greatest_end-returns
@@ -39,6 +35,6 @@ item_cost-returns-in-Do t c =
 
 pub item_cost-returns-in-QDo : goal.item_cost-returns-in-QDo
 item_cost-returns-in-QDo t c =
-    q_do_cost c.args.known.now (last_of c.args.last) (node_of c.args.item.now) (tree_of c.in-QDo.body) c.in-QDo.plus c.known_turns-in-QDo.result
-    c.entered-turns.result c.turn_price-in-QDo.result c.items_cost-in-QDo.result c.sum-turn-in-QDo.result c.product-in-QDo.result c.sum-in-QDo.result
+    q_do_cost c.args.known.now (last_of c.args.last) (node_of c.args.item.now) (tree_of c.in-QDo.body) c.in-QDo.plus c.known_turns-in-QDo.result c.entered-turns.result c.turn_price-in-QDo.result c.items_cost-in-QDo.result
+    c.sum-turn-in-QDo.result c.product-in-QDo.result c.sum-in-QDo.result
     c.q_do_has_parts.ensures c.known_turns-in-QDo.ensures c.entered-turns.ensures c.turn_price-in-QDo.ensures (search rules) c.sum-turn-in-QDo.ensures.value c.product-in-QDo.ensures.value c.sum-in-QDo.ensures.value

@@ -1,4 +1,4 @@
-use Rattle.std.proofs.Common.{◌≡◌, ◌==◌, false, length, ap, ◌∙◌, sym, rules}
+use Rattle.std.proofs.Common.{◌==◌, length, ap, ◌∙◌, sym}
 use Rattle.forth_program.specs.declared.item.Item.{Item}
 use Rattle.forth_program.specs.ItemTrees.{items_of}
 use Rattle.std.specs.Prelude.{List}

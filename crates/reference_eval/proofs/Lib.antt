@@ -1,0 +1,15 @@
+pub mod Bytes
+pub mod Holding
+pub mod Leading
+pub mod Doing
+pub mod Reaching
+pub mod WorkLaws
+pub mod StructureLaws
+pub mod Tokens
+pub mod WordSteps
+pub mod Products
+pub mod Held
+pub mod Short
+pub mod StepLaws
+pub mod RunMade
+pub mod Evaluated

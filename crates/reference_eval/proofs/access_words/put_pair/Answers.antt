@@ -1,0 +1,10 @@
+use Rattle.std.proofs.Common.{refl}
+use Rattle.reference_eval.proofs.Doing as does
+use Rattle.reference_eval.proofs.access_words.put_pair.Goals as goal
+use Rattle.std.proofs.Common.{◌∷◌}
+
+pub returns-in-Ok : goal.returns-in-Ok
+returns-in-Ok c = λ meant old new d. does.put_ok c.args.answer (c.in-Ok.x, c.in-Ok.y) meant (λ p. p.1 ∷ p.0 ∷ c.args.cells.now) _ _ _ _ _ c.in-Ok.is refl c.put.ensures d
+
+pub returns-in-Err : goal.returns-in-Err
+returns-in-Err c = λ meant old new d. does.put_err c.args.answer c.in-Err.halt meant _ _ _ c.in-Err.is d

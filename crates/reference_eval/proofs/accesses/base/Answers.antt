@@ -1,0 +1,6 @@
+use Rattle.forth_program.specs.Access as access
+use Rattle.reference_eval.proofs.Doing as does
+use Rattle.reference_eval.proofs.accesses.base.Goals as goal
+
+pub returns : goal.returns
+returns g c = does.at_start (λ start. access.fetch start) c.data_start-start.result _ _ _ c.data_start-start.ensures.value c.fetch.ensures

@@ -1,0 +1,9 @@
+use Rattle.std.proofs.Common.{rules, ◌≡◌, sym, Err}
+use Rattle.reference_eval.proofs.Doing as does
+use Rattle.reference_eval.proofs.accesses.fetch_byte.Goals as goal
+
+pub returns-in_err-cell : goal.returns-in_err-cell
+returns-in_err-cell g c = let e : c.from_residual.result ≡ Err c.in_err-cell.field-0.0 = search rules in rw e (does.breaks _ _ _ _ _ c.in_err-cell.ensures)
+
+pub returns : goal.returns
+returns g c = does.follows _ _ _ _ _ _ _ c.in_ok-cell.ensures (does.gives_as _ _ _ (sym c.byte_of.ensures))

@@ -1,0 +1,23 @@
+use Rattle.std.proofs.Common.{rules, ◌≡◌, ap, ◌∙◌, refl, Err, ◌-◌}
+use Rattle.cell_math.specs.Cell.{sum_of}
+use Rattle.forth_program.specs.ByteWords as bytes
+use Rattle.reference_eval.proofs.Doing as does
+use Rattle.reference_eval.proofs.byte_words.move_down.Goals as goal
+
+pub loop-left-init : goal.loop-left-init
+loop-left-init g c = does.continues _ _
+
+pub loop-left-preserved : goal.loop-left-preserved
+loop-left-preserved g c = does.continues_past _ _ (λ _. bytes.move_down (c.loop-left.left - 1) c.args.from c.args.to) _ _ _ _ (does.opens _
+    (λ n. bytes.move_down n c.args.from c.args.to) c.loop-left.left _ _ c.loop-left-test.true c.loop-left.invariant) (does.does_as _ (bytes.copy_byte (sum_of c.args.from (c.loop-left.left - 1))
+    (sum_of c.args.to (c.loop-left.left - 1))) _ _ _ (λ b w h. ap (λ x. bytes.copy_byte x c.add-in-loop-left.result w) c.add.ensures ∙ ap (λ y. bytes.copy_byte (sum_of c.args.from
+    (c.loop-left.left - 1)) y w) c.add-in-loop-left.ensures) c.in_ok-copy_byte.ensures)
+
+pub returns-in_err-copy_byte : goal.returns-in_err-copy_byte
+returns-in_err-copy_byte g c = let e : c.from_residual.result ≡ Err c.in_err-copy_byte.field-0.0 = search rules in rw e (does.whole_is _ _ _ _ _ _ (does.opens _
+    (λ n. bytes.move_down n c.args.from c.args.to) c.loop-left.left _ _ c.loop-left-test.true c.loop-left.invariant) (does.breaks _ (λ _. bytes.move_down
+    (c.loop-left.left - 1) c.args.from c.args.to) _ _ _ (does.does_as _ (bytes.copy_byte (sum_of c.args.from (c.loop-left.left - 1)) (sum_of c.args.to (c.loop-left.left - 1))) _ _ _ (λ b w h. ap
+    (λ x. bytes.copy_byte x c.add-in-loop-left.result w) c.add.ensures ∙ ap (λ y. bytes.copy_byte (sum_of c.args.from (c.loop-left.left - 1)) y w) c.add-in-loop-left.ensures) c.in_err-copy_byte.ensures)))
+
+pub returns : goal.returns
+returns g c = does.ends _ (λ n. bytes.move_down n c.args.from c.args.to) c.loop-left.left _ _ _ c.loop-left-test.false (λ w. refl) c.loop-left.invariant

@@ -1,0 +1,7 @@
+use Rattle.std.proofs.Common.{◌+◌}
+use Rattle.forth_program.specs.Access as access
+use Rattle.reference_eval.proofs.Doing as does
+use Rattle.reference_eval.proofs.pictures.hold_pointer.Goals as goal
+
+pub returns : goal.returns
+returns g c = does.at_start (λ start. access.fetch (start + 2)) c.data_start-start.result _ _ _ c.data_start-start.ensures.value c.fetch.ensures
