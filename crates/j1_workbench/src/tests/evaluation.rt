@@ -70,9 +70,11 @@ fn runs_alike(alloc: Global, line: &str) -> Result<bool, Fail> {
     let mut evaluated = Outside::new(alloc, input.as_slice(), NEVER)?;
     evaluated.files.put("source.fs", text.as_bytes())?;
     let status = call(alloc, &mut run, "run source.fs")?;
-    Ok(call(alloc, &mut evaluated, "eval source.fs")? == status
-        && *evaluated.out.held() == *run.out.held()
-        && *evaluated.notes.held() == *run.notes.held())
+    Ok(
+        call(alloc, &mut evaluated, "eval source.fs")? == status
+            && *evaluated.out.held() == *run.out.held()
+            && *evaluated.notes.held() == *run.notes.held(),
+    )
 }
 
 #[test]

@@ -16,6 +16,7 @@ const FIRST_ROWS: &str = r#"
 : MAIN 50000 2 UM* U. U. ;                                     |     | 1_34464_
 : MAIN 0 2 2 UM/MOD ;                                          |     |                         | 9 halted 10
 : MAIN 12345 0 <# # # 46 HOLD #S #> TYPE ;                     |     | 123.45
+: MAIN 12345 0 <# # # [CHAR] . HOLD #S #> TYPE ;                |     | 123.45
 : MAIN 7 9 * 2 + EMIT ;                                        |     | A
 : MAIN -7 2 / 69 + EMIT ;                                      |     | A
 : MAIN 1 0 / EMIT ;                                            |     |                         | 9 halted 10

@@ -24,6 +24,7 @@ const LIMITS: &str = r#"
 : MAIN_ 1, 0_ 1, 1-_ 2396, DROP_ 1, ; 1
 : MAIN_ 1, 0_ 1, 1-_ 2397, DROP_ 1, ; 1             |        | 3 source token 2402: CodeFull
 : MAIN_ 1, 0_ 1, 1-_ 2398, DROP_ 1, ; 1             |        | 3 source token 2402: CodeFull
+: MAIN_ 1, 0_ 1, 1-_ 2397, [CHAR]_A_ 1, ; 1         |        | 3 source token 2401: CodeFull
 : MAIN_ 1, CHARS_ 3000, ; 1                         |        | 4 MAIN: not certified: Data
 : MAIN_ 1, 0_ 1, CHARS_ 3000, DROP_ 1, ; 1
 : MAIN_ 1, 65 EMIT_ 479, ; 1                        | A 479

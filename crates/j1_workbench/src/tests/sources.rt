@@ -33,6 +33,9 @@ const SOURCES: &str = r#"
 :                                         |    |         | 3 source token 2: NeedsName
 : ;                                       |    |         | 3 source token 2: NeedsName
 : : ;                                     |    |         | 3 source token 2: NeedsName
+: MAIN [CHAR]                             |    |         | 3 source token 4: NeedsName
+: MAIN [CHAR] ;                           |    |         | 3 source token 5: OpenDefinition
+: MAIN [char] abc EMIT [CHAR] ) EMIT ;    |    | a)
 : ( a ) MAIN ;                            |    |         | 3 source token 2: NeedsName
 : \ MAIN ;                                |    |         | 3 source token 2: NeedsName
 : ." MAIN ;                               |    |         | 3 source token 2: NeedsName
