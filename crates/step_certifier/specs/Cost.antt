@@ -93,8 +93,8 @@ abbrev mutual
   pub node_cost : List ℕ → Last → Node → ℕ
   node_cost known last (Literal value) = 2
   node_cost known last (Plain word) = (entry_of word).base + (entry_of word).per * or_none (known_count word last)
-  node_cost known last (Call definition) = 1 + (slice_index_or known definition 0 + 1)
-  node_cost known last (Child definition address) = 2 + (slice_index_or known definition 0 + 1)
+  node_cost known last (Call callee) = 1 + (slice_index_or known callee 0 + 1)
+  node_cost known last (Child callee address) = 2 + (slice_index_or known callee 0 + 1)
   node_cost known last (Text kind address size) = text_cost kind size
   node_cost known last (If first second) = 1 + max (cost known Other first + true_end second) (cost known Other second)
   node_cost known last (Do body plus) = 8 + or_none (loop_turns last body plus) * (turn_price plus + cost known Other body)
