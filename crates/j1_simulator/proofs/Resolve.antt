@@ -6,6 +6,7 @@ use Rattle.j1_simulator.specs.declared.effects.Output.{Output}
 use Rattle.j1_simulator.specs.Step.{Core, Missing, Reach, Reaches, Asks, Faults, Advances, Takes, Terminates, if_known, next_pc, moved_on, goes_on, accesses, applied, effect_at, step}
 use Rattle.j1_simulator.specs.RoundMachine.{RingCells, round_storage, ring_top}
 use Rattle.j1_simulator.specs.MachineState.{WentOn, reached_with, with_key}
+use Rattle.j1_simulator.specs.PortAccess.{step_given}
 
 -- where the next place is known
 going : (e : Effect) (core : Core ℕ RingCells) (cell : ℕ) (memory : List ℕ) (output : Output) (pc : ℕ) →
@@ -44,3 +45,14 @@ pub quiet : (key : Option ℕ) (data_start : ℕ) (f s : Bool) (memory : List �
 quiet key data_start false false memory t n ef es = refl
 quiet key data_start true s memory t n ef es = cc
 quiet key data_start false true memory t n ef es = cc
+
+-- the step of a machine whose fetch gives a cell, where its next place is known
+pub given_done : (e : Effect) (core old new : Core ℕ RingCells) (r cell pc : ℕ) → core ≡ old → e ≡ effect_at old → r ≡ ring_top core.return_stack →
+    next_pc round_storage e.next core.pc core.t r ≡ Some pc → new ≡ moved_on round_storage e core pc cell core.memory →
+    Advances new Silent ≡ step_given cell old
+given_done e core old new r cell pc same known back next moved =
+    let next' : next_pc round_storage e.next core.pc core.t (ring_top core.return_stack) ≡ Some pc = cc in
+    ap (λ after. Advances after Silent) moved
+    ∙ sym (going e core cell core.memory Silent pc next')
+    ∙ ap (λ effect. goes_on round_storage effect core (Reaches cell core.memory Silent)) known
+    ∙ ap (λ at. goes_on round_storage (effect_at old) at (Reaches cell at.memory Silent)) same

@@ -8,3 +8,4 @@ pub mod MachineState
 pub mod Drive
 pub mod Turn
 pub mod Laws
+pub mod PortAccess

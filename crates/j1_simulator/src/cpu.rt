@@ -2,9 +2,10 @@
 ghost use Rattle.std.specs.Prelude.{◌≡◌, ◌<◌, ◌≤ℤ◌, pos, negsuc, length, slice_index, OnErr, false, ℕ, Option};
 ghost use Rattle.j1_simulator.specs.declared.effects.Output.TheVariants.{Silent};
 ghost use Rattle.j1_table.specs.Instruction.{decoded};
-ghost use Rattle.j1_simulator.specs.Step.{step as step_of, effect_at, moved_on, data_after, return_after};
-ghost use Rattle.j1_simulator.specs.RoundMachine.{round_storage, empty_ring};
+ghost use Rattle.j1_simulator.specs.Step.{Advances, step as step_of, effect_at, moved_on, data_after, return_after};
+ghost use Rattle.j1_simulator.specs.RoundMachine.{round_storage, empty_ring, ring_top};
 ghost use Rattle.j1_simulator.specs.MachineState.{WentOn, observation_of, with_key};
+ghost use Rattle.j1_simulator.specs.PortAccess.{step_given};
 
 use crate::effects::{Effect, Output, Pause, ReturnWrite};
 use crate::operate::{new_top, next_pc_of};
@@ -162,5 +163,34 @@ impl Cpu {
         let pc = next_pc_of(effect.next, self.pc, self.t, self.return_stack.top());
         self.move_on(effect, pc, cell);
         Ok(output)
+    }
+
+    /// T.
+    #[inline(always)]
+    pub fn top(&self) -> u16
+        ensures { result ≡ self.now.t }
+    {
+        self.t
+    }
+
+    /// N, the cell below T.
+    #[inline(always)]
+    pub fn below_top(&self) -> u16
+        ensures { result ≡ ring_top self.now.data_stack }
+    {
+        self.data_stack.top()
+    }
+
+    /// One instruction, of this effect, where a fetch gives this cell and no memory changes.
+    pub fn pass_given(&mut self, effect: Effect, cell: u16)
+        requires effect { effect ≡ effect_at self.old }
+        requires data_low { negsuc 1 ≤ℤ effect.data_move }
+        requires data_high { effect.data_move ≤ℤ pos 1 }
+        requires return_low { negsuc 1 ≤ℤ effect.return_move }
+        requires return_high { effect.return_move ≤ℤ pos 1 }
+        ensures { Advances self.new Silent ≡ step_given cell self.old }
+    {
+        let pc = next_pc_of(effect.next, self.pc, self.t, self.return_stack.top());
+        self.move_on(effect, pc, cell);
     }
 }

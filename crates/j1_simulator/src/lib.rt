@@ -2,9 +2,11 @@
 //!
 //! The machine is that of Bowman's J1 paper, with 16-bit cells, 8192 cells of memory, and a data and a return stack
 //! that are rings of 32 cells. Its definition stands in `specs/`: `Effect` says what an instruction does, `Step` does it
-//! over any cells and stacks, `RoundMachine` gives it rings, and `Run` makes n instructions.
+//! over any cells and stacks, `RoundMachine` gives it rings, and `Run` makes n instructions. `PortAccess`
+//! tells the accesses of the next instruction, and makes it where its one access is made outside the machine.
 #![tactic(auto)]
 
+mod accesses;
 mod buffers;
 mod counters;
 mod cpu;
@@ -19,6 +21,7 @@ mod plans;
 mod reach;
 mod rings;
 
+pub use accesses::Accesses;
 pub use drives::drive;
 pub use ends::{DriveError, End, Event, Finish};
 pub use laws::{

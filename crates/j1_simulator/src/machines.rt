@@ -2,8 +2,11 @@
 ghost use Rattle.std.specs.Prelude.{◌≡◌, IfOk, None, false, slice_index};
 ghost use Rattle.j1_table.specs.Instruction.{decoded};
 ghost use Rattle.j1_simulator.specs.Effect.{effect};
-ghost use Rattle.j1_simulator.specs.MachineState.{key_of, EndsBy, event_of, end_of_output, machine_start, Steps, WantsAByte, GivenIsDue};
+ghost use Rattle.j1_simulator.specs.declared.ends.Event.TheVariants.{Went};
+ghost use Rattle.j1_simulator.specs.PortAccess.{next_accesses, OneAtPort, step_given};
+ghost use Rattle.j1_simulator.specs.MachineState.{AnswersStep, key_of, EndsBy, event_of, end_of_output, machine_start, Steps, WantsAByte, GivenIsDue};
 
+use crate::accesses::Accesses;
 use crate::counters::Depths;
 use crate::cpu::Cpu;
 use crate::effects::{Output, Pause};
@@ -200,5 +203,42 @@ impl Machine {
         ensures returns { result.1 ≡ self.now.depths.return_depth }
     {
         (self.depths.of_data(), self.depths.of_return())
+    }
+
+    /// The accesses of the next instruction; none where the run has ended.
+    pub fn accesses(&self) -> Accesses
+        ensures { result ≡ next_accesses self.now }
+    {
+        if self.ended.is_some() {
+            return Accesses {
+                fetch: None,
+                store: None,
+            };
+        }
+        let effect = self.cpu.effect_of(self.cpu.next_instr());
+        let address = self.cpu.top() / 2 * 2;
+        Accesses {
+            fetch: if effect.fetches { Some(address) } else { None },
+            store: if effect.stores {
+                Some((address, self.cpu.below_top()))
+            } else {
+                None
+            },
+        }
+    }
+
+    /// Makes the next instruction, whose one access is at a port between machines (byte addresses 16416 to 16446), and
+    /// answers `Went`. A fetch gives `fetched`, and a store changes no memory: the caller keeps what `accesses` told.
+    pub fn step_with(&mut self, fetched: u16) -> Event
+        requires running { self.old.ended ≡ None }
+        requires access { OneAtPort (next_accesses self.old).fetch (next_accesses self.old).store }
+        ensures step { AnswersStep None (step_given fetched self.old.core) result self.old self.new }
+        ensures went { result ≡ Went }
+    {
+        let effect = self.cpu.effect_of(self.cpu.next_instr());
+        self.cpu.pass_given(effect, fetched);
+        self.given = None;
+        self.depths.count(effect);
+        Event::Went
     }
 }
