@@ -1,0 +1,9 @@
+pub mod Diamond
+pub mod Confluence
+pub mod LinkEnds
+pub mod OwnSteps
+pub mod FilledLists
+pub mod SingleSteps
+pub mod KeptLists
+pub mod ScheduleRuns
+pub mod MailboxCells

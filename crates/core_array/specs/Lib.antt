@@ -1,0 +1,4 @@
+pub mod Network
+pub mod Cores
+pub mod Laws
+pub mod ArrayState
