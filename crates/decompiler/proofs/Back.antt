@@ -2,7 +2,7 @@
 use Rattle.std.proofs.Common.{◌≡◌, ℕ, zero, suc, ◌+◌, ◌*◌, ◌/◌, ◌%◌, ◌<◌, ◌&&◌, Bool, true, false, Option, Some, None, refl, ap, ◌∙◌, arith, nat_eq, inl, inr}
 use Rattle.std.proofs.lemmas.Bool.{cases_lt}
 use Rattle.std.proofs.lemmas.Bool.Decides.{nat_tests}
-use Rattle.j1_assembler.specs.Numbers.{◌>>=◌, digit_of, byte_of, place_of}
+use Rattle.j1_assembler.specs.Numbers.{◌>>=◌, digit_of, byte_of, stated_place}
 use Rattle.j1_assembler.specs.Numbers as asm
 use Rattle.decompiler.specs.Listing.{digit, hex2, hex4, place}
 
@@ -60,5 +60,5 @@ hex4_back n h =
     ap (λ o. o >>= λ x. byte_of (digit (n % 256 / 16)) (digit (n % 256 % 16)) >>= λ y. Some (256 * x + y)) (byte_back (n / 256) (omega arith))
     ∙ (ap (λ o. o >>= λ y. Some (256 * (n / 256) + y)) (byte_back (n % 256) (omega arith)) ∙ ap Some (cell_is n))
 
-pub place_back : (n : ℕ) → n < 65536 → place_of (place n) ≡ Some n
+pub place_back : (n : ℕ) → n < 65536 → stated_place (place n) ≡ Some n
 place_back n h = hex4_back n h

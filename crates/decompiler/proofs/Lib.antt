@@ -2,7 +2,7 @@ pub mod Spaced
 pub mod Back
 pub mod Instructions
 pub mod Split
-pub mod Reading
-pub mod Assembling
+pub mod ListingLines
+pub mod ListingAssembly
 pub mod Whole
 pub mod Examples

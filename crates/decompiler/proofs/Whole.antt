@@ -20,7 +20,7 @@ use Rattle.std.specs.Str.{bytes_eq}
 use Rattle.decompiler.proofs.Back.{hex4_back, both_left, both_right}
 use Rattle.decompiler.proofs.Instructions.{is_good, is_operand, cell_read, comment_good, place_operand, hex4_operand}
 use Rattle.decompiler.proofs.Split.{all_append, operands_good, fields_back, line_formed, first_row_line}
-use Rattle.decompiler.proofs.Assembling.{next_line, code_part, data_part, bytes_operands, taken_small, dropped_small}
+use Rattle.decompiler.proofs.ListingAssembly.{next_line, code_part, data_part, bytes_operands, taken_small, dropped_small}
 
 -- the cells and bytes have room, and each is in range
 pub record IsImage (image : Content) : Type 0 where

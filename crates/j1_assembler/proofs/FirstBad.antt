@@ -8,7 +8,7 @@ use Rattle.j1_assembler.specs.declared.assembler.Section.TheVariants as sections
 use Rattle.j1_assembler.specs.declared.labels.Definition.{Definition}
 use Rattle.j1_assembler.specs.Text.{lines_of, fields_of}
 use Rattle.j1_assembler.specs.Labels.{labels_from, defined}
-use Rattle.j1_assembler.specs.Assembly.{Outcome, Fine, Faulty, ◌>>=◌, Part, header_outcome, line_outcome, opened, Assembly, Refused, ended, lines_outcome, text_outcome, assembled}
+use Rattle.j1_assembler.specs.Assembly.{LineResult, Fine, Faulty, ◌>>=◌, Part, header_outcome, line_outcome, opened, Assembly, Refused, ended, lines_outcome, text_outcome, assembled}
 use Rattle.j1_assembler.specs.FirstBad.{step, steps, is_end, is_whole, IsFirstBad}
 
 fine_one : {A : Type 0} (x y : A) → Fine x ≡ Fine y → x ≡ y
@@ -20,10 +20,10 @@ module _ (find : List ℕ → Option Definition) where
   outcome number None lines = text_outcome find number lines
   outcome number (Some part) lines = lines_outcome find number part lines
 
-  abbrev next : ℕ → List (List ℕ) → Outcome (Option Part) → Assembly
+  abbrev next : ℕ → List (List ℕ) → LineResult (Option Part) → Assembly
   next number lines o = elim o [ Fine part ↦ outcome (number + 1) part lines | Faulty cause ↦ Refused number cause ]
 
-  header_next : (number : ℕ) (lines : List (List ℕ)) (o : Outcome (Option ℕ)) →
+  header_next : (number : ℕ) (lines : List (List ℕ)) (o : LineResult (Option ℕ)) →
       elim o [
         | Fine start ↦ elim start [ Some start ↦ lines_outcome find (number + 1) (opened start) lines | None ↦ text_outcome find (number + 1) lines ]
         | Faulty cause ↦ Refused number cause
@@ -32,7 +32,7 @@ module _ (find : List ℕ → Option Definition) where
   header_next number lines (Fine None) = refl
   header_next number lines (Faulty cause) = refl
 
-  line_next : (number : ℕ) (lines : List (List ℕ)) (o : Outcome Part) → elim o [ Fine part ↦ lines_outcome find (number + 1) part lines | Faulty cause ↦ Refused number cause ] ≡ next number lines (o >>= λ part. Fine (Some part))
+  line_next : (number : ℕ) (lines : List (List ℕ)) (o : LineResult Part) → elim o [ Fine part ↦ lines_outcome find (number + 1) part lines | Faulty cause ↦ Refused number cause ] ≡ next number lines (o >>= λ part. Fine (Some part))
   line_next number lines (Fine part) = refl
   line_next number lines (Faulty cause) = refl
 
@@ -69,7 +69,7 @@ module _ (find : List ℕ → Option Definition) where
   end_bad first part sections.Code number cause s e = no_end first (Some part) number cause (ap is_end s) e
   end_bad first part sections.Data number cause s e = no_end first (Some part) number cause (ap is_end s) e
 
-  bad_by : (first : ℕ) (start : Option Part) (line : List ℕ) (lines : List (List ℕ)) (o : Outcome (Option Part)) (number : ℕ) (cause : AsmCause) →
+  bad_by : (first : ℕ) (start : Option Part) (line : List ℕ) (lines : List (List ℕ)) (o : LineResult (Option Part)) (number : ℕ) (cause : AsmCause) →
       step find first start line ≡ o → next first lines o ≡ Refused number cause →
       ((part : Option Part) → outcome (first + 1) part lines ≡ Refused number cause → Bad (first + 1) part lines number cause) →
       Bad first start (line ∷ lines) number cause
@@ -122,7 +122,7 @@ module _ (find : List ℕ → Option Definition) where
       unended first start whole ∙ (ap (λ k. Refused k causes.NoEnd) same ∙ ap (Refused number) (sym f.2))
   at_end first start number cause (suc before) part n fine (inr f) = absurd (omega (arith, f.0))
 
-  fine_step : (o : Outcome (Option Part)) (first : ℕ) (lines : List (List ℕ)) (part : Option Part) →
+  fine_step : (o : LineResult (Option Part)) (first : ℕ) (lines : List (List ℕ)) (part : Option Part) →
       (o >>= λ part. steps find (first + 1) part lines) ≡ Fine part →
       (middle : Option Part) × (o ≡ Fine middle) × (steps find (first + 1) middle lines ≡ Fine part)
   fine_step (Fine middle) first lines part e = (middle, refl, e)

@@ -11,10 +11,10 @@ use Rattle.j1_assembler.specs.Text.{lines_of, fields_of, is_formed}
 use Rattle.j1_assembler.specs.Instruction.{Operation}
 use Rattle.j1_assembler.specs.Lines.{header_of, heading_of, front_place, behind_place, line_label, line_rest, optional_instruction, data_of}
 use Rattle.j1_assembler.specs.Labels.{labels_from, defined}
-use Rattle.j1_assembler.specs.Assembly.{Outcome, Fine, Faulty, ◌>>=◌, checked, present, formed, Part, part_of, is_present, is_first, cell_of, with_cell}
+use Rattle.j1_assembler.specs.Assembly.{LineResult, Fine, Faulty, ◌>>=◌, checked, present, formed, Part, part_of, is_present, is_first, cell_of, with_cell}
 use Rattle.j1_assembler.specs.Assembly.{with_operation, code_line, with_bytes, data_line, opening_line, line_of_code, line_of_data, line_with, line_outcome}
 use Rattle.j1_assembler.specs.Assembly.{Assembly, Assembled, Refused, lines_outcome, opened, header_outcome, text_outcome, assembled}
-use Rattle.j1_assembler.specs.Grammar.{Row, rows_from, CodeRows, DataRows, Assembles}
+use Rattle.j1_assembler.specs.Grammar.{Row, rows_from, FirstCell, CodeRows, DataRows, Assembles}
 use Rattle.j1_assembler.proofs.Inversion.{row_skipped, row_first}
 
 both_left : (a b : Bool) → (a && b) ≡ true → a ≡ true
@@ -123,14 +123,15 @@ module _ (find : List ℕ → Option Definition) where
     data_by number bytes line (field ∷ fields) lines (row ∷ rows) ends more e form r h d room ih =
         let f = first_row number line field fields lines row (rows ++ ends ∷ []) e r in
         let same : row.fields ≡ field ∷ fields = sym (ap (λ r. r.fields) f.0) in
-        let here : List ℕ = d.2.0 in
-        let later : List ℕ = d.2.1 in
-        let whole : length more ≡ length here + length later = ap length d.2.3 ∙ length-append here later in
+        let here : List ℕ = d.2.here in
+        let later : List ℕ = d.2.more in
+        let whole : length more ≡ length here + length later = ap length d.2.split ∙ length-append here later in
         let address : start + length bytes + length here ≡ start + length (bytes ++ here) = omega (arith, length-append bytes here) in
         let fine = data_fine number bytes line field fields here e (first_formed line lines form)
-        (subst (λ t. heading_of t ≡ None) same d.0) (subst (λ t. is_present (front_place t) (start + length bytes) ≡ true) same d.1) (subst (λ t. data_of (behind_place t) ≡ Some here) same d.2.2) (omega arith) in
+        (subst (λ t. heading_of t ≡ None) same d.0) (subst (λ t. is_present (front_place t) (start + length bytes) ≡ true) same d.1) (subst (λ t. data_of (behind_place t) ≡ Some here) same d.2.given) (omega arith) in
         step number (part_of sections.Data start cells bytes) (part_of sections.Data start cells (bytes ++ here)) line lines (Assembled (image_with (bytes ++ more))) fine
-        (ih (bytes ++ here) rows later f.1 (subst (λ a. DataRows a rows later) address d.2.4) (omega (arith, length-append bytes here)) ∙ ap (λ b. Assembled (image_with b)) (append_assoc bytes here later ∙ ap (λ t. bytes ++ t) (sym d.2.3)))
+        (ih (bytes ++ here) rows later f.1 (subst (λ a. DataRows a rows later) address d.2.rest) (omega (arith, length-append bytes here))
+        ∙ ap (λ b. Assembled (image_with b)) (append_assoc bytes here later ∙ ap (λ t. bytes ++ t) (sym d.2.split)))
 
     at_data : (number : ℕ) (bytes : List ℕ) (lines : List (List ℕ)) (rows : List Row) (ends : Row) (more : List ℕ) → AreFormed lines →
         rows_from number lines ≡ rows ++ ends ∷ [] → heading_of ends.fields ≡ Some headings.End → DataRows (start + length bytes) rows more →
@@ -194,8 +195,7 @@ module _ (find : List ℕ → Option Definition) where
           optional_instruction (line_rest (field ∷ fields)) ≡ Some operation →
           elim operation as (λ o. Type 0) [
             | None ↦ CodeRows find (length cells) rows more
-            | Some operation ↦
-                (cell : ℕ) × (later : List ℕ) × (cell_of find operation ≡ Fine cell) × (more ≡ cell ∷ later) × CodeRows find (length cells + 1) rows later
+            | Some operation ↦ FirstCell find operation more (λ later. CodeRows find (length cells + 1) rows later)
           ] → length cells + length more ≤ start / 2 →
           ((cells : List ℕ) (rows : List Row) (more : List ℕ) → Later (number + 1) lines rows → CodeRows find (length cells) rows more →
           length cells + length more ≤ start / 2 → Gives (number + 1) cells lines more) → Gives number cells (line ∷ lines) more
@@ -203,16 +203,16 @@ module _ (find : List ℕ → Option Definition) where
           let part : Part = part_of sections.Code start cells [] in
           step number part part line lines (Assembled (whole_image (cells ++ more))) (code_fine number cells line field fields None part e (first_formed line lines form) h at first o refl) (ih cells rows more r c room)
       code_row number cells line field fields lines rows more (Some operation) e form r h at first o c room ih =
-          let cell : ℕ = c.0 in
-          let later : List ℕ = c.1 in
+          let cell : ℕ = c.cell in
+          let later : List ℕ = c.more in
           let part : Part = part_of sections.Code start cells [] in
           let next : Part = part_of sections.Code start (cells ++ cell ∷ []) [] in
           let count : length cells + 1 ≡ length (cells ++ cell ∷ []) = omega (arith, length-append cells (cell ∷ [])) in
-          let size : length more ≡ 1 + length later = ap length c.3 ∙ omega arith in
+          let size : length more ≡ 1 + length later = ap length c.split ∙ omega arith in
           step number part next line lines (Assembled (whole_image (cells ++ more)))
           (code_fine number cells line field fields (Some operation) next e (first_formed line lines form) h at first o
-          (cell_fine cells operation cell c.2 (omega arith)))
-          (ih (cells ++ cell ∷ []) rows later r (subst (λ n. CodeRows find n rows later) count c.4) (omega arith) ∙ ap (λ t. Assembled (whole_image t)) (append_assoc cells (cell ∷ []) later ∙ ap (λ t. cells ++ t) (sym c.3)))
+          (cell_fine cells operation cell c.given (omega arith)))
+          (ih (cells ++ cell ∷ []) rows later r (subst (λ n. CodeRows find n rows later) count c.rest) (omega arith) ∙ ap (λ t. Assembled (whole_image t)) (append_assoc cells (cell ∷ []) later ∙ ap (λ t. cells ++ t) (sym c.split)))
 
       code_by : (number : ℕ) (cells line : List ℕ) (fields lines : List (List ℕ)) (rows : List Row) (more : List ℕ) → fields_of line ≡ fields →
           AreFormed (line ∷ lines) → Later number (line ∷ lines) rows → CodeRows find (length cells) rows more → length cells + length more ≤ start / 2 →
@@ -233,9 +233,9 @@ module _ (find : List ℕ → Option Definition) where
           let f = first_row number line field fields lines row (rows ++ begins_data ∷ (data_rows ++ ends ∷ [])) e r in
           let same : row.fields ≡ field ∷ fields = sym (ap (λ r. r.fields) f.0) in
           let counted : row.number ≡ number = sym (ap (λ r. r.number) f.0) in
-          let first : is_first find (line_label (field ∷ fields)) number ≡ true = subst (λ t. is_first find (line_label t) number ≡ true) same (subst (λ n. is_first find (line_label row.fields) n ≡ true) counted c.2) in
-          code_row number cells line field fields lines rows more c.3.0 e form f.1
-          (subst (λ t. heading_of t ≡ None) same c.0) (subst (λ t. is_present (front_place t) (length cells) ≡ true) same c.1) first (subst (λ t. optional_instruction (line_rest t) ≡ Some c.3.0) same c.3.1) c.3.2 room ih
+          let first : is_first find (line_label (field ∷ fields)) number ≡ true = subst (λ t. is_first find (line_label t) number ≡ true) same (subst (λ n. is_first find (line_label row.fields) n ≡ true) counted c.1.label) in
+          code_row number cells line field fields lines rows more c.0 e form f.1
+          (subst (λ t. heading_of t ≡ None) same c.1.heading) (subst (λ t. is_present (front_place t) (length cells) ≡ true) same c.1.place) first (subst (λ t. optional_instruction (line_rest t) ≡ Some c.0) same c.1.instruction) c.2 room ih
 
       at_code : (number : ℕ) (cells : List ℕ) (lines : List (List ℕ)) (rows : List Row) (more : List ℕ) → AreFormed lines → Later number lines rows →
           CodeRows find (length cells) rows more → length cells + length more ≤ start / 2 → Gives number cells lines more
@@ -271,7 +271,7 @@ module _ (find : List ℕ → Option Definition) where
       at_opening number (line ∷ lines) begins_code rows more form r h c room =
           opening_by number line (fields_of line) lines begins_code rows more refl form r h c room (λ r. at_opening (number + 1) lines begins_code rows more (rest_formed line lines form) r h c room)
 
-  header_step : (number : ℕ) (line : List ℕ) (lines : List (List ℕ)) (o : Outcome (Option ℕ)) → header_outcome line (fields_of line) ≡ o →
+  header_step : (number : ℕ) (line : List ℕ) (lines : List (List ℕ)) (o : LineResult (Option ℕ)) → header_outcome line (fields_of line) ≡ o →
       text_outcome find number (line ∷ lines)
       ≡ elim o [
         | Fine start ↦ elim start [ Some start ↦ lines_outcome find (number + 1) (opened start) lines | None ↦ text_outcome find (number + 1) lines ]

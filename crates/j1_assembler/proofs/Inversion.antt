@@ -14,7 +14,7 @@ use Rattle.j1_assembler.specs.Text.{lines_of, fields_of, is_formed}
 use Rattle.j1_assembler.specs.Instruction.{Operation}
 use Rattle.j1_assembler.specs.Lines.{header_of, heading_of, front_place, behind_place, line_label, line_rest, optional_instruction, data_of}
 use Rattle.j1_assembler.specs.Labels.{labels_from, defined}
-use Rattle.j1_assembler.specs.Assembly.{Outcome, Fine, Faulty, ◌>>=◌, checked, present, formed, Part, part_of, is_present, is_first, cell_of, with_cell}
+use Rattle.j1_assembler.specs.Assembly.{LineResult, Fine, Faulty, ◌>>=◌, checked, present, formed, Part, part_of, is_present, is_first, cell_of, with_cell}
 use Rattle.j1_assembler.specs.Assembly.{with_operation, code_line, with_bytes, data_line, opening_line, line_of_code, line_of_data, line_with, line_outcome}
 use Rattle.j1_assembler.specs.Assembly.{Assembled, Refused, lines_outcome, opened, header_outcome, text_outcome, assembled}
 use Rattle.j1_assembler.specs.Grammar.{Row, with_row, rows_from, CodeRows, DataRows, Assembles}
@@ -31,12 +31,12 @@ module _ {A : Type 0} where
   present_fine (Some x) cause y e = ap Some (fine_one x y e)
   present_fine None cause y e = absurd (cc)
 
-bind_fine : {A B : Type 0} (o : Outcome A) (f : A → Outcome B) (y : B) → (o >>= f) ≡ Fine y → (x : A) × ((o ≡ Fine x) × (f x ≡ Fine y))
+bind_fine : {A B : Type 0} (o : LineResult A) (f : A → LineResult B) (y : B) → (o >>= f) ≡ Fine y → (x : A) × ((o ≡ Fine x) × (f x ≡ Fine y))
 bind_fine (Fine x) f y e = (x, (refl, e))
 bind_fine (Faulty cause) f y e = absurd (cc)
 
 module _ (find : List ℕ → Option Definition) where
-  step_by : (number : ℕ) (o : Outcome Part) (lines : List (List ℕ)) (image : Content) →
+  step_by : (number : ℕ) (o : LineResult Part) (lines : List (List ℕ)) (image : Content) →
       elim o [ Fine part ↦ lines_outcome find (number + 1) part lines | Faulty cause ↦ Refused number cause ] ≡ Assembled image →
       (next : Part) × ((o ≡ Fine next) × (lines_outcome find (number + 1) next lines ≡ Assembled image))
   step_by number (Fine part) lines image e = (part, (refl, e))
@@ -155,7 +155,7 @@ module _ (find : List ℕ → Option Definition) (start : ℕ) (cells : List ℕ
         more = here ++ r.more;
         split = row_first number line field fields lines f ∙ ap (λ t. (record { number = number; fields = field ∷ fields }) ∷ t) r.split;
         at_end = r.at_end;
-        are = (h, p, (here, r.more, d, refl, subst (λ a. DataRows a r.rows r.more) address r.are));
+        are = (h, p, record { here = here; more = r.more; given = d; split = refl; rest = subst (λ a. DataRows a r.rows r.more) address r.are });
         whole = r.whole ∙ ap (λ b. record { cells = cells; bytes = b; data_start = start }) (append_assoc bytes here r.more);
         fits = omega (arith, r.fits, ap length (append_assoc bytes here r.more));
         formed = all_formed line lines form r.formed;
@@ -297,7 +297,7 @@ module _ (find : List ℕ → Option Definition) (start : ℕ) where
         data_fits = r.data_fits;
         code = row ∷ r.code;
         split = row_first number line field fields lines f ∙ ap (λ t. row ∷ t) r.split;
-        code_are = (h, p, u, (None, o, r.code_are));
+        code_are = (None, record { heading = h; place = p; label = u; instruction = o }, r.code_are);
         formed = all_formed line lines form r.formed;
       }
   code_more number cells line field fields lines image next f room (Adds operation cell h form p u o k fit e) later ih =
@@ -316,7 +316,11 @@ module _ (find : List ℕ → Option Definition) (start : ℕ) where
         code = row ∷ r.code;
         more = cell ∷ r.more;
         split = row_first number line field fields lines f ∙ ap (λ t. row ∷ t) r.split;
-        code_are = (h, p, u, (Some operation, o, (cell, r.more, k, refl, subst (λ n. CodeRows find n r.code r.more) count r.code_are)));
+        code_are = (
+          Some operation,
+          record { heading = h; place = p; label = u; instruction = o },
+          record { cell = cell; more = r.more; given = k; split = refl; rest = subst (λ n. CodeRows find n r.code r.more) count r.code_are },
+        );
         whole = r.whole ∙ ap (λ c. record { cells = c; bytes = r.space; data_start = start }) (append_assoc cells (cell ∷ []) r.more);
         code_fits = omega (arith, r.code_fits, ap length (append_assoc cells (cell ∷ []) r.more));
         formed = all_formed line lines form r.formed;
@@ -415,7 +419,7 @@ module _ (find : List ℕ → Option Definition) where
     pub split : rows_from number lines ≡ header ∷ rows_from later rest
     pub formed : list_all is_formed lines ≡ true
 
-  header_by : (number : ℕ) (o : Outcome (Option ℕ)) (lines : List (List ℕ)) (image : Content) →
+  header_by : (number : ℕ) (o : LineResult (Option ℕ)) (lines : List (List ℕ)) (image : Content) →
       elim o [
         | Fine start ↦ elim start [ Some start ↦ lines_outcome find (number + 1) (opened start) lines | None ↦ text_outcome find (number + 1) lines ]
         | Faulty cause ↦ Refused number cause

@@ -1,5 +1,5 @@
 pub mod Parts
-pub mod Defining
+pub mod DefinedLabels
 pub mod Data
 pub mod Steps
 pub mod Inversion

@@ -9,15 +9,15 @@ use Rattle.j1_assembler.specs.declared.refusal.AsmError.{AsmError}
 use Rattle.j1_assembler.specs.declared.refusal.AsmError.TheVariants as errors
 use Rattle.j1_assembler.specs.declared.refusal.LineError.{LineError}
 use Rattle.j1_assembler.specs.declared.refusal.LineError.TheVariants as faults
-use Rattle.j1_assembler.specs.Assembly.{Outcome, Fine, Faulty, Assembly, Assembled, Refused, text_outcome, lines_outcome, opened}
+use Rattle.j1_assembler.specs.Assembly.{LineResult, Fine, Faulty, Assembly, Assembled, Refused, text_outcome, lines_outcome, opened}
 
 -- an error of a line is its outcome, want of memory aside
-abbrev pub LineFails : {B : Type 0} → LineError → Outcome B → Type 0
+abbrev pub LineFails : {B : Type 0} → LineError → LineResult B → Type 0
 LineFails (faults.Fault cause) outcome = outcome ≡ Faulty cause
 LineFails faults.OutOfMemory outcome = Unit {0}
 
 -- an answer on a line is its outcome, want of memory aside
-abbrev pub LineGives : {A B : Type 0} → (A → B) → Result A LineError → Outcome B → Type 0
+abbrev pub LineGives : {A B : Type 0} → (A → B) → Result A LineError → LineResult B → Type 0
 LineGives view (Ok x) outcome = outcome ≡ Fine (view x)
 LineGives view (Err e) outcome = LineFails e outcome
 
@@ -32,7 +32,7 @@ Gives view (Ok x) assembly = assembly ≡ Assembled (view x)
 Gives view (Err e) assembly = Fails e assembly
 
 -- a cause is the outcome of a line
-abbrev pub CauseGives : {A : Type 0} → Result A AsmCause → Outcome A → Type 0
+abbrev pub CauseGives : {A : Type 0} → Result A AsmCause → LineResult A → Type 0
 CauseGives (Ok x) outcome = outcome ≡ Fine x
 CauseGives (Err cause) outcome = outcome ≡ Faulty cause
 

@@ -15,22 +15,22 @@ use Rattle.j1_assembler.specs.Lines.{header_of, heading_of, front_place, behind_
 use Rattle.j1_assembler.specs.Labels.{labels_from, defined}
 
 -- what a line gives, or its fault
-pub data Outcome (A : Type 0) : Type 0 where
-  Fine : (value : A) → Outcome A
-  Faulty : (cause : AsmCause) → Outcome A
+pub data LineResult (A : Type 0) : Type 0 where
+  Fine : (value : A) → LineResult A
+  Faulty : (cause : AsmCause) → LineResult A
 
 infixl 10 ◌>>=◌
-abbrev pub ◌>>=◌ : {A B : Type 0} → Outcome A → (A → Outcome B) → Outcome B
+abbrev pub ◌>>=◌ : {A B : Type 0} → LineResult A → (A → LineResult B) → LineResult B
 (Fine x) >>= f = f x
 (Faulty cause) >>= f = Faulty cause
 
 -- x where the test holds, and else the fault
-abbrev pub checked : {A : Type 0} → Bool → AsmCause → A → Outcome A
+abbrev pub checked : {A : Type 0} → Bool → AsmCause → A → LineResult A
 checked true cause x = Fine x
 checked false cause x = Faulty cause
 
 -- x where it is there, and else the fault
-abbrev pub present : {A : Type 0} → Option A → AsmCause → Outcome A
+abbrev pub present : {A : Type 0} → Option A → AsmCause → LineResult A
 present (Some x) cause = Fine x
 present None cause = Faulty cause
 
@@ -44,7 +44,7 @@ pub record Part : Type 0 where
 abbrev pub part_of : Section → ℕ → List ℕ → List ℕ → Part
 part_of section data_start cells bytes = record { section = section; data_start = data_start; cells = cells; bytes = bytes }
 
-abbrev pub formed : {A : Type 0} → List ℕ → A → Outcome A
+abbrev pub formed : {A : Type 0} → List ℕ → A → LineResult A
 formed line x = checked (is_formed line) causes.Form x
 
 -- no number, or the present one
@@ -67,65 +67,65 @@ label_cell None = None
 label_cell (Some definition) = Some definition.cell
 
 -- the cell of an instruction
-abbrev pub cell_of : (List ℕ → Option Definition) → Operation → Outcome ℕ
+abbrev pub cell_of : (List ℕ → Option Definition) → Operation → LineResult ℕ
 cell_of find (Fixed cell) = Fine cell
 cell_of find (Refers way name) = present (label_cell (find name)) causes.Label >>= λ target. Fine (encoded (going way target))
 
-abbrev pub with_cell : Part → ℕ → Outcome Part
+abbrev pub with_cell : Part → ℕ → LineResult Part
 with_cell part cell = checked (nat_lt (length part.cells) (part.data_start / 2)) causes.Full (record part { cells = part.cells ++ cell ∷ [] })
 
-abbrev pub with_operation : (List ℕ → Option Definition) → Part → Option Operation → Outcome Part
+abbrev pub with_operation : (List ℕ → Option Definition) → Part → Option Operation → LineResult Part
 with_operation find part None = Fine part
 with_operation find part (Some operation) = cell_of find operation >>= with_cell part
 
 -- a code line with this number
-abbrev pub code_line : (List ℕ → Option Definition) → ℕ → Part → List (List ℕ) → Outcome Part
+abbrev pub code_line : (List ℕ → Option Definition) → ℕ → Part → List (List ℕ) → LineResult Part
 code_line find number part fields =
     present (optional_instruction (line_rest fields)) causes.Form >>= λ operation.
     checked (is_present (front_place fields) (length part.cells)) causes.Address part >>= λ part.
     checked (is_first find (line_label fields) number) causes.Label part >>= λ part.
     with_operation find part operation
 
-abbrev pub with_bytes : Part → List ℕ → Outcome Part
+abbrev pub with_bytes : Part → List ℕ → LineResult Part
 with_bytes part bytes = checked (nat_le (length part.bytes + length bytes) (16384 - part.data_start)) causes.Full (record part { bytes = part.bytes ++ bytes })
 
 -- a data line
-abbrev pub data_line : Part → List (List ℕ) → Outcome Part
+abbrev pub data_line : Part → List (List ℕ) → LineResult Part
 data_line part fields =
     present (data_of (behind_place fields)) causes.Form >>= λ bytes.
     checked (is_present (front_place fields) (part.data_start + length part.bytes)) causes.Address part >>= λ part.
     with_bytes part bytes
 
 -- a line directly behind the header
-abbrev pub opening_line : Part → List ℕ → Option Heading → Outcome Part
+abbrev pub opening_line : Part → List ℕ → Option Heading → LineResult Part
 opening_line part line (Some headings.Code) = formed line (record part { section = sections.Code })
 opening_line part line heading = Faulty causes.Section
 
 -- a line of the section CODE
-abbrev pub line_of_code : (List ℕ → Option Definition) → ℕ → Part → List ℕ → Option Heading → Outcome Part
+abbrev pub line_of_code : (List ℕ → Option Definition) → ℕ → Part → List ℕ → Option Heading → LineResult Part
 line_of_code find number part line None = formed line part >>= λ part. code_line find number part (fields_of line)
 line_of_code find number part line (Some headings.Data) = formed line (record part { section = sections.Data })
 line_of_code find number part line heading = Faulty causes.Section
 
 -- a line of the section DATA
-abbrev pub line_of_data : Part → List ℕ → Option Heading → Outcome Part
+abbrev pub line_of_data : Part → List ℕ → Option Heading → LineResult Part
 line_of_data part line None = formed line part >>= λ part. data_line part (fields_of line)
 line_of_data part line (Some headings.End) = formed line (record part { section = sections.End })
 line_of_data part line heading = Faulty causes.Section
 
 -- a line with fields behind the header, by its section
-abbrev pub line_by : (List ℕ → Option Definition) → ℕ → Part → List ℕ → Section → Outcome Part
+abbrev pub line_by : (List ℕ → Option Definition) → ℕ → Part → List ℕ → Section → LineResult Part
 line_by find number part line sections.Opening = opening_line part line (heading_of (fields_of line))
 line_by find number part line sections.Code = line_of_code find number part line (heading_of (fields_of line))
 line_by find number part line sections.Data = line_of_data part line (heading_of (fields_of line))
 line_by find number part line sections.End = Faulty causes.AfterEnd
 
-abbrev pub line_with : (List ℕ → Option Definition) → ℕ → Part → List ℕ → List (List ℕ) → Outcome Part
+abbrev pub line_with : (List ℕ → Option Definition) → ℕ → Part → List ℕ → List (List ℕ) → LineResult Part
 line_with find number part line [] = formed line part
 line_with find number part line (field ∷ fields) = line_by find number part line part.section
 
 -- a line behind the header
-abbrev pub line_outcome : (List ℕ → Option Definition) → ℕ → Part → List ℕ → Outcome Part
+abbrev pub line_outcome : (List ℕ → Option Definition) → ℕ → Part → List ℕ → LineResult Part
 line_outcome find number part line = line_with find number part line (fields_of line)
 
 -- the image of a text, or its first bad line
@@ -150,7 +150,7 @@ abbrev pub opened : ℕ → Part
 opened start = record { section = sections.Opening; data_start = start; cells = []; bytes = [] }
 
 -- the data start of a header line; a line without fields has none
-abbrev pub header_outcome : List ℕ → List (List ℕ) → Outcome (Option ℕ)
+abbrev pub header_outcome : List ℕ → List (List ℕ) → LineResult (Option ℕ)
 header_outcome line [] = formed line None
 header_outcome line (field ∷ fields) = present (header_of (field ∷ fields)) causes.Header >>= λ start. formed line (Some start)
 

@@ -9,15 +9,15 @@ use Rattle.j1_assembler.specs.declared.assembler.Section.TheVariants as sections
 use Rattle.j1_assembler.specs.declared.labels.Definition.{Definition}
 use Rattle.j1_assembler.specs.Text.{lines_of, fields_of}
 use Rattle.j1_assembler.specs.Labels.{labels_from, defined}
-use Rattle.j1_assembler.specs.Assembly.{Outcome, Fine, Faulty, ◌>>=◌, Part, header_outcome, line_outcome, opened, Refused, assembled}
+use Rattle.j1_assembler.specs.Assembly.{LineResult, Fine, Faulty, ◌>>=◌, Part, header_outcome, line_outcome, opened, Refused, assembled}
 
 -- what a line gives where these lines stand before it, or its fault; None stands before the header
-abbrev pub step : (List ℕ → Option Definition) → ℕ → Option Part → List ℕ → Outcome (Option Part)
+abbrev pub step : (List ℕ → Option Definition) → ℕ → Option Part → List ℕ → LineResult (Option Part)
 step find number None line = header_outcome line (fields_of line) >>= λ start. Fine (option_map opened start)
 step find number (Some part) line = line_outcome find number part line >>= λ part. Fine (Some part)
 
 -- what lines give from this number on, or the first fault among them
-abbrev pub steps : (List ℕ → Option Definition) → ℕ → Option Part → List (List ℕ) → Outcome (Option Part)
+abbrev pub steps : (List ℕ → Option Definition) → ℕ → Option Part → List (List ℕ) → LineResult (Option Part)
 steps find number part [] = Fine part
 steps find number part (line ∷ lines) = step find number part line >>= λ part. steps find (number + 1) part lines
 

@@ -24,24 +24,43 @@ abbrev pub rows_from : ℕ → List (List ℕ) → List Row
 rows_from number [] = []
 rows_from number (line ∷ lines) = with_row number (fields_of line) (rows_from (number + 1) lines)
 
--- the cells of code rows, where so many cells stand before: each row has the number of the next cell or none, a label that is
--- defined there first or none, and an instruction or none
+-- a code row, where so many cells stand before: the number of the next cell or none, a label that is defined there first or none, and
+-- an instruction or none
+pub record IsCodeRow (find : List ℕ → Option Definition) (count : ℕ) (row : Row) (operation : Option Operation) : Type 0 where
+  pub heading : heading_of row.fields ≡ None
+  pub place : is_present (front_place row.fields) count ≡ true
+  pub label : is_first find (line_label row.fields) row.number ≡ true
+  pub instruction : optional_instruction (line_rest row.fields) ≡ Some operation
+
+-- the cell of an operation stands first, and the rows behind it have the cells behind it
+pub record FirstCell (find : List ℕ → Option Definition) (operation : Operation) (cells : List ℕ) (behind : List ℕ → Type 0) : Type 0 where
+  pub cell : ℕ
+  pub more : List ℕ
+  pub given : cell_of find operation ≡ Fine cell
+  pub split : cells ≡ cell ∷ more
+  pub rest : behind more
+
+-- the cells of code rows, where so many cells stand before
 abbrev pub CodeRows : (List ℕ → Option Definition) → ℕ → List Row → List ℕ → Type 0
 CodeRows find count [] cells = cells ≡ []
 CodeRows find count (row ∷ rows) cells =
-    (heading_of row.fields ≡ None) × (is_present (front_place row.fields) count ≡ true) × (is_first find (line_label row.fields) row.number ≡ true)
-    × ((operation : Option Operation) × (optional_instruction (line_rest row.fields) ≡ Some operation)
-    × elim operation [
-      | None ↦ CodeRows find count rows cells
-      | Some operation ↦ (cell : ℕ) × (more : List ℕ) × (cell_of find operation ≡ Fine cell) × (cells ≡ cell ∷ more) × CodeRows find (count + 1) rows more
-    ])
+    (operation : Option Operation) × IsCodeRow find count row operation
+    × elim operation [ None ↦ CodeRows find count rows cells | Some operation ↦ FirstCell find operation cells (λ more. CodeRows find (count + 1) rows more) ]
+
+-- the bytes of a data row stand first, and the rows behind it have the bytes behind them
+pub record FirstBytes (row : Row) (bytes : List ℕ) (behind : List ℕ → List ℕ → Type 0) : Type 0 where
+  pub here : List ℕ
+  pub more : List ℕ
+  pub given : data_of (behind_place row.fields) ≡ Some here
+  pub split : bytes ≡ here ++ more
+  pub rest : behind here more
 
 -- the bytes of data rows from an address on
 abbrev pub DataRows : ℕ → List Row → List ℕ → Type 0
 DataRows address [] bytes = bytes ≡ []
 DataRows address (row ∷ rows) bytes =
     (heading_of row.fields ≡ None) × (is_present (front_place row.fields) address ≡ true)
-    × ((here : List ℕ) × (more : List ℕ) × (data_of (behind_place row.fields) ≡ Some here) × (bytes ≡ here ++ more) × DataRows (address + length here) rows more)
+    × FirstBytes row bytes (λ here more. DataRows (address + length here) rows more)
 
 -- the text is formed, and its lines with fields are a header, `CODE`, code rows, `DATA`, data rows and `END`; they have these cells
 -- and bytes, for which there is room

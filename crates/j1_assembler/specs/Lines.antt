@@ -3,7 +3,7 @@ use Rattle.std.specs.Prelude.{ℕ, ◌%◌, nat_le, ◌==◌, ◌&&◌, not, tru
 use Rattle.std.specs.Str.{bytes_eq}
 use Rattle.j1_assembler.specs.declared.rows.Heading.{Heading}
 use Rattle.j1_assembler.specs.declared.rows.Heading.TheVariants as headings
-use Rattle.j1_assembler.specs.Numbers.{◌>>=◌, hex2, hex4, place_of}
+use Rattle.j1_assembler.specs.Numbers.{◌>>=◌, hex2, hex4, stated_place}
 use Rattle.j1_assembler.specs.Names.{label_of}
 use Rattle.j1_assembler.specs.Instruction.{Operation, instruction_of, alone}
 
@@ -39,11 +39,11 @@ heading_of fields = alone fields >>= heading_named
 -- the place in front of a line, if there is one, and the fields behind it
 abbrev pub front_place : List (List ℕ) → Option ℕ
 front_place [] = None
-front_place (field ∷ fields) = place_of field
+front_place (field ∷ fields) = stated_place field
 
 abbrev pub behind_place : List (List ℕ) → List (List ℕ)
 behind_place [] = []
-behind_place (field ∷ fields) = elim (place_of field) [ Some place ↦ fields | None ↦ field ∷ fields ]
+behind_place (field ∷ fields) = elim (stated_place field) [ Some place ↦ fields | None ↦ field ∷ fields ]
 
 abbrev pub front_label : List (List ℕ) → Option (List ℕ)
 front_label [] = None

@@ -31,6 +31,6 @@ hex4 (a ∷ b ∷ c ∷ d ∷ []) = byte_of a b >>= λ x. byte_of c d >>= λ y. 
 hex4 field = None
 
 -- a field of `@` and four digits
-abbrev pub place_of : List ℕ → Option ℕ
-place_of [] = None
-place_of (b ∷ digits) = elim (b == 64) [ true ↦ hex4 digits | false ↦ None ]
+abbrev pub stated_place : List ℕ → Option ℕ
+stated_place [] = None
+stated_place (b ∷ digits) = elim (b == 64) [ true ↦ hex4 digits | false ↦ None ]

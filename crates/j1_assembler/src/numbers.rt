@@ -1,6 +1,6 @@
 // Hexadecimal numbers.
 ghost use Rattle.std.specs.Prelude.{◌≡◌, ◌<◌, IfSome, option_map};
-ghost use Rattle.j1_assembler.specs.Numbers.{digit_of, byte_of, hex2, hex4, place_of};
+ghost use Rattle.j1_assembler.specs.Numbers.{digit_of, byte_of, hex2, hex4, stated_place};
 
 fn digit(byte: u8) -> Option<u8>
     ensures value { result ≡ digit_of byte }
@@ -48,7 +48,7 @@ pub fn hex4(field: &[u8]) -> Option<u16>
 
 /// The number of a field of `@` and four hexadecimal digits.
 pub fn place(field: &[u8]) -> Option<u16>
-    ensures { result ≡ place_of field.now }
+    ensures { result ≡ stated_place field.now }
 {
     match field.split_first() {
         Some((byte, digits)) if *byte == b'@' => hex4(digits),

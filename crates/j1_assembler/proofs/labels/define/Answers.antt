@@ -1,7 +1,7 @@
 use Rattle.std.proofs.Common.{sym, ◌∙◌}
 use Rattle.std.proofs.lemmas.Map.Text.{btree_map_updates_str}
 use Rattle.j1_assembler.specs.Labels.{found_in}
-use Rattle.j1_assembler.proofs.Defining.{merged}
+use Rattle.j1_assembler.proofs.DefinedLabels.{merged}
 use Rattle.j1_assembler.proofs.labels.define.Goals as goal
 
 pub returns-in-Ok : goal.returns-in-Ok

@@ -13,7 +13,7 @@ use Rattle.decompiler.specs.Listing.{hex2, place, instruction_fields, comment_of
 use Rattle.decompiler.proofs.Back.{place_back}
 use Rattle.decompiler.proofs.Instructions.{is_good, is_operand, is_none, IsRead, cell_read, comment_good, place_operand, hex2_operand}
 use Rattle.decompiler.proofs.Split.{all_append, operands_good, fields_back, line_formed}
-use Rattle.decompiler.proofs.Reading.{code_step, data_step, data_back}
+use Rattle.decompiler.proofs.ListingLines.{code_step, data_step, data_back}
 
 -- a line that is fine, and what follows it
 pub next_line : (find : List ℕ → Option Definition) (number : ℕ) (part after : Part) (line : List ℕ) (lines : List (List ℕ)) (assembly : Assembly) →

@@ -8,17 +8,17 @@ use Rattle.j1_assembler.specs.declared.refusal.AsmCause.TheVariants as causes
 use Rattle.j1_assembler.specs.declared.assembler.Section.TheVariants as sections
 use Rattle.j1_assembler.specs.Text.{fields_of, is_formed}
 use Rattle.j1_assembler.specs.Numbers as asm
-use Rattle.j1_assembler.specs.Numbers.{place_of}
+use Rattle.j1_assembler.specs.Numbers.{stated_place}
 use Rattle.j1_assembler.specs.Names.{label_of}
 use Rattle.j1_assembler.specs.Instruction.{Operation, Fixed, instruction_of}
 use Rattle.j1_assembler.specs.Lines.{heading_of, front_place, behind_place, front_label, behind_label, line_label, line_rest, optional_instruction, bytes_of, data_of}
-use Rattle.j1_assembler.specs.Assembly.{Outcome, Fine, ◌>>=◌, checked, present, Part, part_of, formed, is_present, is_first, with_operation, with_bytes, code_line, data_line, line_of_code, line_of_data, line_with, line_outcome}
+use Rattle.j1_assembler.specs.Assembly.{LineResult, Fine, ◌>>=◌, checked, present, Part, part_of, formed, is_present, is_first, with_operation, with_bytes, code_line, data_line, line_of_code, line_of_data, line_with, line_outcome}
 use Rattle.decompiler.specs.Listing.{hex2, place}
 use Rattle.decompiler.proofs.Back.{hex2_back}
 
 module _ (find : List ℕ → Option Definition) (number start : ℕ) (cells bytes line : List ℕ) where
   -- a code line from what its fields are
-  abbrev code_by : Option (Option Operation) → Option ℕ → Option (List ℕ) → Outcome Part
+  abbrev code_by : Option (Option Operation) → Option ℕ → Option (List ℕ) → LineResult Part
   code_by operation place label =
       present operation causes.Form >>= λ operation.
       checked (is_present place (length cells)) causes.Address (part_of sections.Code start cells bytes) >>= λ part.
@@ -26,7 +26,7 @@ module _ (find : List ℕ → Option Definition) (number start : ℕ) (cells byt
       with_operation find part operation
 
   pub code_step : (k cell : ℕ) (word operand : List ℕ) (rest : List (List ℕ)) → fields_of line ≡ place k ∷ word ∷ operand ∷ rest →
-      instruction_of (word ∷ operand ∷ rest) ≡ Some (Fixed cell) → label_of word ≡ None → is_formed line ≡ true → place_of (place k) ≡ Some k →
+      instruction_of (word ∷ operand ∷ rest) ≡ Some (Fixed cell) → label_of word ≡ None → is_formed line ≡ true → stated_place (place k) ≡ Some k →
       k ≡ length cells → length cells < start / 2 →
       line_outcome find number (part_of sections.Code start cells bytes) line ≡ Fine (part_of sections.Code start (cells ++ cell ∷ []) bytes)
   code_step k cell word operand rest e read label form at same room =
@@ -64,14 +64,14 @@ data_back more small h g =
     within (length (map hex2 more)) (bytes_of (map hex2 more)) (omega (arith, length-map more hex2)) (omega (arith, length-map more hex2)) ∙ bytes_back more small
 
 module _ (find : List ℕ → Option Definition) (number start : ℕ) (cells bytes line : List ℕ) where
-  abbrev data_by : Option (List ℕ) → Option ℕ → Outcome Part
+  abbrev data_by : Option (List ℕ) → Option ℕ → LineResult Part
   data_by found place =
       present found causes.Form >>= λ bytes'.
       checked (is_present place (start + length bytes)) causes.Address (part_of sections.Data start cells bytes) >>= λ part.
       with_bytes part bytes'
 
   pub data_step : (address b : ℕ) (bs : List ℕ) → fields_of line ≡ place address ∷ map hex2 (b ∷ bs) → is_formed line ≡ true →
-      place_of (place address) ≡ Some address → address ≡ start + length bytes → data_of (map hex2 (b ∷ bs)) ≡ Some (b ∷ bs) →
+      stated_place (place address) ≡ Some address → address ≡ start + length bytes → data_of (map hex2 (b ∷ bs)) ≡ Some (b ∷ bs) →
       length bytes + length (b ∷ bs) ≤ 16384 - start →
       line_outcome find number (part_of sections.Data start cells bytes) line ≡ Fine (part_of sections.Data start cells (bytes ++ b ∷ bs))
   data_step address b bs e form at same read room =
