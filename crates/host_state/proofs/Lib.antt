@@ -3,5 +3,5 @@ mod Stacks
 mod Cells
 mod Times
 mod Entries
-mod Keeping
+mod Preservation
 mod Images

@@ -1,4 +1,4 @@
-use Rattle.host_state.proofs.Keeping as keeping
+use Rattle.host_state.proofs.Preservation as keeping
 use Rattle.host_state.proofs.Images as images
 use Rattle.host_state.proofs.laws.host_words_keep.Goals as goal
 

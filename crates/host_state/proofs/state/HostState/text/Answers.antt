@@ -1,4 +1,4 @@
-use Rattle.host_state.proofs.Keeping.{laid_room}
+use Rattle.host_state.proofs.Preservation.{laid_room}
 use Rattle.host_state.proofs.state.HostState.text.Goals as goal
 
 pub returns-clause-room : goal.returns-clause-room
