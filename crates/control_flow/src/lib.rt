@@ -15,6 +15,6 @@ mod structures;
 mod tests;
 
 pub use laws::{programs_are_sources, tests_widen, texts_are_judged};
-pub use nest::{Nest, Open};
+pub use nest::{Ending, Nest, Open};
 pub use refusal::{SourceCause, SourceError, SourceRefusal};
 pub use source::read_program;

@@ -20,7 +20,7 @@ pub(crate) enum Opening {
 
 /// A word that ends a list of items.
 #[derive(Clone, Copy)]
-pub(crate) enum Ending {
+pub enum Ending {
     Else,
     Then,
     Until,

@@ -1,0 +1,8 @@
+pub mod Figures
+pub mod Names
+pub mod Tokens
+pub mod Reading
+pub mod Lists
+pub mod Printing
+pub mod Runs
+mod Samples

@@ -1,0 +1,3 @@
+pub mod MadeSource
+pub mod MadeProgram
+pub mod Laws
