@@ -1,10 +1,12 @@
 -- The program of a made source, and a certificate of it.
-use Rattle.std.specs.Prelude.{ℕ, zero, suc, ◌+◌, ◌*◌, ◌%◌, ◌++◌, ◌∷◌, [], List, codes, decimal}
+use Rattle.std.specs.Prelude.{ℕ, zero, suc, ◌+◌, ◌*◌, ◌%◌, ◌++◌, ◌∷◌, [], List, Some, pos, codes, decimal}
 use Rattle.word_table.specs.declared.word.Word.{Word}
 use Rattle.word_table.specs.declared.word.Word.TheVariants.{Plus, Xor, Minus, Star, UDot}
 use Rattle.forth_program.specs.Tree.{Nodes, Literal, Plain, Call, Empty, Then}
 use Rattle.forth_program.specs.Program.{SourceProgram}
 use Rattle.control_flow.specs.SourceText.{program_with}
+use Rattle.depth_certifier.specs.declared.effect.Effect.{Effect}
+use Rattle.depth_certifier.specs.Certificate.{Cert}
 use Rattle.made_sources.specs.MadeSource.{next_number}
 
 -- the number of a place: that of place 0 is the seed
@@ -47,3 +49,22 @@ calls_and_print (suc count) definition = Then (Call definition) (calls_and_print
 -- MAIN calls each definition on 1 and prints what is left
 abbrev pub made_program : ℕ → ℕ → SourceProgram
 made_program seed count = program_with (names_to count ++ codes "MAIN" ∷ []) (bodies_to seed count ++ Then (Literal 1) (calls_and_print count 0) ∷ []) count (6 * count + 5)
+
+-- ---- its certificate: each definition takes a cell and leaves one
+
+abbrev pub operation_effect : Word → Effect
+operation_effect Star = record { need = 1; peak = 9; back = 6; exit = Some (pos 0, pos 0) }
+operation_effect word = record { need = 1; peak = 1; back = 0; exit = Some (pos 0, pos 0) }
+
+abbrev pub number_effect : ℕ → Effect
+number_effect number = operation_effect (operation_word (number % 4))
+
+abbrev pub effects_to : ℕ → ℕ → List Effect
+effects_to seed count = for_each (λ definition. number_effect (number_at seed (suc definition))) count
+
+-- MAIN takes the most where it prints
+abbrev pub main_effect : Effect
+main_effect = record { need = 0; peak = 15; back = 12; exit = Some (pos 0, pos 0) }
+
+abbrev pub made_certificate : ℕ → ℕ → Cert
+made_certificate seed count = record { effects = effects_to seed count ++ main_effect ∷ []; shared = main_effect; heads = [] }

@@ -3,4 +3,4 @@
 
 mod laws;
 
-pub use laws::{made_programs_halt_well, made_sources_are_read};
+pub use laws::{made_programs_are_certified, made_programs_halt_well, made_sources_are_read};
