@@ -24,10 +24,16 @@ pub record Bounds (most return_most : ℕ) (e : Effect) (base below : ℕ) : Typ
   pub peak_limit : e.peak ≤ 33
 
 -- each number of cells that a callee leaves is known at the place after the call
+pub record ReturnsTo (exit : ℤ × ℤ) (base : ℕ) (t : Place) (base' : ℕ) (entries : List Entry) : Type 0 where
+  pub stand : Stand
+  pub place : t ≡ At stand
+  pub low : (pos base' +ℤ stand.low) ≤ℤ (pos base +ℤ exit.0)
+  pub high : (pos base +ℤ exit.1) ≤ℤ (pos base' +ℤ stand.high)
+  pub same : shape_of entries ≡ stand.shape
+
 abbrev pub Returns : Option (ℤ × ℤ) → ℕ → Place → ℕ → List Entry → Type 0
 Returns None base t base' entries = Unit {0}
-Returns (Some exit) base t base' entries =
-    (q : Stand) × (t ≡ At q) × ((pos base' +ℤ q.low) ≤ℤ (pos base +ℤ exit.0)) × ((pos base +ℤ exit.1) ≤ℤ (pos base' +ℤ q.high)) × (shape_of entries ≡ q.shape)
+Returns (Some exit) base t base' entries = ReturnsTo exit base t base' entries
 
 pub returns_of : (exit : Option (ℤ × ℤ)) (p : Stand) (t t' : Place) (base n : ℕ) (entries : List Entry) → t ≡ after exit p p.shape → Below t t' → Inside base p n entries → Returns exit n t' base entries
 returns_of None p t t' base n entries e b i = tt
@@ -36,7 +42,7 @@ returns_of (Some exit) p t t' base n entries e b i = at t' (subst (λ z. Below z
     at : (t' : Place) → Below (after (Some exit) p p.shape) t' → Returns (Some exit) n t' base entries
     at Unreachable b = absurd b
     at (Doubled q) b = absurd b
-    at (At q) b = (q, refl, omega (arith, ints, b.low, i.low), omega (arith, ints, b.high, i.high), i.same ∙ b.same)
+    at (At q) b = record { stand = q; place = refl; low = omega (arith, ints, b.low, i.low); high = omega (arith, ints, b.high, i.high); same = i.same ∙ b.same }
 
 module _ (known : Known) (heads : List (ℤ × ℤ)) (main : Effect) (most return_most : ℕ) where
   -- a frame of effect e that waits for a callee of effect x
@@ -75,7 +81,7 @@ module _ (known : Known) (heads : List (ℤ × ℤ)) (main : Effect) (most retur
     pub holds : (work : List Work) (entries : List Entry) (c : List ℕ) (world : World) (s l : Place) → WorkFrom known heads e work s l → Stood base s c entries → length c ≤ most → entries_height entries ≤ e.back →
         KeepsFrames (record { work = work; entries = entries; callers = callers; cells = c; world = world })
     holds work entries c world s l w st few room =
-        record { effect = e; base = base; place = w.0; loop_end = l; leads = w.2; stood = stood_more base s w.0 c entries w.1 st; bounds = bounds; callers = below; few = few; room = room }
+        record { effect = e; base = base; place = w.place; loop_end = l; leads = w.leads; stood = stood_more base s w.place c entries w.below st; bounds = bounds; callers = below; few = few; room = room }
 
     module _ (x : Effect) (p : Stand) (shape : Shape) (n : ℕ) (entries : List Entry) (allows : Allows e x p shape) (inside : Inside base p n entries) where
       pub need_met : x.need ≤ n
@@ -101,10 +107,10 @@ module _ (known : Known) (heads : List (ℤ × ℤ)) (main : Effect) (most retur
     pub reaches : (x : Effect) (change : Shape → Option Shape) (p : Stand) (t : Place) (n : ℕ) (before entries : List Entry) (c : List ℕ) → Leads e x change (At p) t → Inside base p n before → LeavesWithin x.exit n (length c) →
         change (shape_of before) ≡ Some (shape_of entries) → Reaches t c entries
     reaches x change p t n before entries c leads i h ch =
-        let same : shape_of entries ≡ leads.0 = some_same (shape_of entries) leads.0 (sym ch ∙ ap change i.same ∙ leads.1) in
+        let same : shape_of entries ≡ leads.shape = some_same (shape_of entries) leads.shape (sym ch ∙ ap change i.same ∙ leads.changes) in
         record {
-          stood = subst (λ z. Stood base z c entries) (sym leads.3) (stood_after base p x.exit leads.0 n c before entries i h same);
-          room = (let a = leads.2.room in omega (arith, ap size same, shape_size entries, a));
+          stood = subst (λ z. Stood base z c entries) (sym leads.place) (stood_after base p x.exit leads.shape n c before entries i h same);
+          room = (let a = leads.allows.room in omega (arith, ap size same, shape_size entries, a));
         }
 
   -- a word on cells and the world

@@ -14,7 +14,7 @@ use Rattle.depth_certifier.specs.Effects.{table_effect, Known, effect_of, Next, 
 use Rattle.depth_certifier.specs.Certificate.{loops_in, loops, loops_in_arms, after, Leads, Decides, no_interval, Head, SameShape, dropped, doubles, WordLeads, ItemFits, Fits, ArmsFit, ExitIn, EffectIn, Limits, Keeps}
 use Rattle.depth_certifier.specs.Walk.{Walk, Walked, then_do, checked, takes, decides, zero_way, joins, leaving, noting, enter_given, enters, returns_to, shape_at, word_walk, item_walk, walk, arms_walk, made}
 use Rattle.depth_certifier.proofs.SourcePlaces.{below_then}
-use Rattle.depth_certifier.proofs.Work.{CaseEnds}
+use Rattle.depth_certifier.proofs.Work.{LastItems}
 use Rattle.depth_certifier.proofs.Tests.{from_zero_up, int_true_le, weaker, effect_in_same, HeadsIn, noted}
 use Rattle.depth_certifier.proofs.UnreachablePlaces.{GivenAre, Enough, enough_less, Passes, enters_none, item_none, walk_none}
 use Rattle.depth_certifier.proofs.StepsBelowCertificate.{KnownIn, word_in, called_in, Tight, TopIs, dropped_below, none_any, Rel, Found, found_from, found_as}
@@ -26,7 +26,7 @@ after_plain (Some x) p shape q h = cc (h)
 
 leads_plain : (e x : Effect) (change : Shape → Option Shape) (s m : Place) → Leads e x change s m → (q : Stand) → m ≡ Doubled q → ⊥
 leads_plain e x change Unreachable m h q is = cc (h, is)
-leads_plain e x change (At p) m h q is = after_plain x.exit p h.0 q (sym h.3 ∙ is)
+leads_plain e x change (At p) m h q is = after_plain x.exit p h.shape q (sym h.place ∙ is)
 leads_plain e x change (Doubled p) m h q is = h
 
 -- how much room a head leaves
@@ -147,19 +147,19 @@ module _ (lim : Limits) (e : Effect) (room : Keeps lim e) (zs ys : Known) (hs : 
   until_found body k Unreachable l h m t top a b c d tl ca db tight enough (At p) w hd i j u n o follows leads back = absurd i
   until_found body k (Doubled p0) l h m t top a b c d tl ca db tight enough (At p) w hd i j u n o follows leads back = absurd i
   until_found body k (At p0) l h m t top a b c d tl ca db tight enough (At p) w hd i j u n o follows leads back =
-      let q = hd.0 in
-      let f = head_found hs given a b k p p0 q w are (enough_at (k + (1 + loops body)) (k + 1) (omega arith) enough) tight i hd.2 hd.3 hd.4 n o in
+      let q = hd.stand in
+      let f = head_found hs given a b k p p0 q w are (enough_at (k + (1 + loops body)) (k + 1) (omega arith) enough) tight i hd.inside hd.low hd.high n o in
       let A = f.below in
       let B = f.above in
       let w1 = noting f.head_interval (At f.head) w in
       let r1 : WalkRel A B c d (k + 1) w1 h l = record {
-        place = subst (λ z. BelowBy A B (At f.head) z) (sym hd.1) (record { low = omega (arith, ints, f.low); high = omega (arith, ints, f.high); same = f.same });
+        place = subst (λ z. BelowBy A B (At f.head) z) (sym hd.place) (record { low = omega (arith, ints, f.low); high = omega (arith, ints, f.high); same = f.same });
         leaves = j;
         effect = u;
         count = one_noted w.heads f.head_interval k n;
         heads = f.heads;
       } in
-      let back' : Below t (At q) = subst (λ z. Below t z) hd.1 back in
+      let back' : Below t (At q) = subst (λ z. Below t z) hd.place back in
       let g = found_from lim e room hs A B c d (k + 1 + loops body) m l a b c d (k + (1 + loops body)) t l (going top More body w1) (λ m. then_do (takes lim (table_effect table.Until) keep m) (λ n. returns_to (At f.head) n))
       (follows top tl A B c d (omega (arith, f.a_in)) (omega (arith, f.b_in)) f.tight (enough_at (k + (1 + loops body)) (k + 1 + loops body) (omega arith) enough) w1 r1) (λ v r.
       found_from lim e room hs A B c d (k + 1 + loops body) t l a b c d (k + (1 + loops body)) t l _ (λ n. returns_to (At f.head) n)
@@ -195,20 +195,20 @@ module _ (lim : Limits) (e : Effect) (room : Keeps lim e) (zs ys : Known) (hs : 
   while_found test body k Unreachable l h m on_true n t top a b c d tl ca db tight enough (At p) w hd i j u count o testing dec going_on back = absurd i
   while_found test body k (Doubled p0) l h m on_true n t top a b c d tl ca db tight enough (At p) w hd i j u count o testing dec going_on back = absurd i
   while_found test body k (At p0) l h m on_true n t top a b c d tl ca db tight enough (At p) w hd i j u count o testing dec going_on back =
-      let q = hd.0 in
-      let f = head_found hs given a b k p p0 q w are (enough_at (k + (1 + loops test + loops body)) (k + 1) (omega arith) enough) tight i hd.2 hd.3 hd.4 count o in
+      let q = hd.stand in
+      let f = head_found hs given a b k p p0 q w are (enough_at (k + (1 + loops test + loops body)) (k + 1) (omega arith) enough) tight i hd.inside hd.low hd.high count o in
       let A = f.below in
       let B = f.above in
       let k1 = k + 1 + loops test in
       let w1 = noting f.head_interval (At f.head) w in
       let r1 : WalkRel A B c d (k + 1) w1 h l = record {
-        place = subst (λ z. BelowBy A B (At f.head) z) (sym hd.1) (record { low = omega (arith, ints, f.low); high = omega (arith, ints, f.high); same = f.same });
+        place = subst (λ z. BelowBy A B (At f.head) z) (sym hd.place) (record { low = omega (arith, ints, f.low); high = omega (arith, ints, f.high); same = f.same });
         leaves = j;
         effect = u;
         count = one_noted w.heads f.head_interval k count;
         heads = f.heads;
       } in
-      let back' : Below n (At q) = subst (λ z. Below n z) hd.1 back in
+      let back' : Below n (At q) = subst (λ z. Below n z) hd.place back in
       let ca' : c ≤ A = omega (arith, f.a_in) in
       let db' : d ≤ B = omega (arith, f.b_in) in
       let g =
@@ -260,19 +260,19 @@ module _ (lim : Limits) (e : Effect) (room : Keeps lim e) (zs ys : Known) (hs : 
   again_found body k Unreachable l h m top a b c d tl ca db tight enough (At p) w hd i j u n o follows back = absurd i
   again_found body k (Doubled p0) l h m top a b c d tl ca db tight enough (At p) w hd i j u n o follows back = absurd i
   again_found body k (At p0) l h m top a b c d tl ca db tight enough (At p) w hd i j u n o follows back =
-      let q = hd.0 in
-      let f = head_found hs given a b k p p0 q w are (enough_at (k + (1 + loops body)) (k + 1) (omega arith) enough) tight i hd.2 hd.3 hd.4 n o in
+      let q = hd.stand in
+      let f = head_found hs given a b k p p0 q w are (enough_at (k + (1 + loops body)) (k + 1) (omega arith) enough) tight i hd.inside hd.low hd.high n o in
       let A = f.below in
       let B = f.above in
       let w1 = noting f.head_interval (At f.head) w in
       let r1 : WalkRel A B c d (k + 1) w1 h l = record {
-        place = subst (λ z. BelowBy A B (At f.head) z) (sym hd.1) (record { low = omega (arith, ints, f.low); high = omega (arith, ints, f.high); same = f.same });
+        place = subst (λ z. BelowBy A B (At f.head) z) (sym hd.place) (record { low = omega (arith, ints, f.low); high = omega (arith, ints, f.high); same = f.same });
         leaves = j;
         effect = u;
         count = one_noted w.heads f.head_interval k n;
         heads = f.heads;
       } in
-      let back' : Below m (At q) = subst (λ z. Below m z) hd.1 back in
+      let back' : Below m (At q) = subst (λ z. Below m z) hd.place back in
       let g = found_from lim e room hs A B c d (k + 1 + loops body) m l a b c d (k + (1 + loops body)) Unreachable l (going top More body w1) (λ m. then_do (returns_to (At f.head) m) (λ n. Ok (record n { place = Unreachable })))
       (follows top tl A B c d (omega (arith, f.a_in)) (omega (arith, f.b_in)) f.tight (enough_at (k + (1 + loops body)) (k + 1 + loops body) (omega arith) enough) w1 r1) (λ v r.
       let x = returns_found lim e room hs A B c d (k + 1 + loops body) f.head q m l v f.low f.high f.same back' r in
@@ -336,22 +336,22 @@ module _ (lim : Limits) (e : Effect) (room : Keeps lim e) (zs ys : Known) (hs : 
   do_found body plus k Unreachable l h x m n a b c d ca db tight enough (At p) w out hd i j u count o shape follows leads back inx = absurd i
   do_found body plus k (Doubled p0) l h x m n a b c d ca db tight enough (At p) w out hd i j u count o shape follows leads back inx = absurd i
   do_found body plus k (At p0) l h x m n a b c d ca db tight enough (At p) w out hd i j u count o shape follows leads back inx =
-      let q = hd.0 in
+      let q = hd.stand in
       let w0 = record w { leaves = Unreachable } in
-      let f = head_found hs given a b k p p0 q w0 are (enough_at (k + (1 + loops body)) (k + 1) (omega arith) enough) tight i hd.2 hd.3 hd.4 count o in
+      let f = head_found hs given a b k p p0 q w0 are (enough_at (k + (1 + loops body)) (k + 1) (omega arith) enough) tight i hd.inside hd.low hd.high count o in
       let A = f.below in
       let B = f.above in
       let k1 = k + 1 + loops body in
       let w1 = noting f.head_interval (At f.head) w0 in
       let r1 : WalkRel A B A B (k + 1) w1 h x = record {
-        place = subst (λ z. BelowBy A B (At f.head) z) (sym hd.1) (record { low = omega (arith, ints, f.low); high = omega (arith, ints, f.high); same = f.same });
+        place = subst (λ z. BelowBy A B (At f.head) z) (sym hd.place) (record { low = omega (arith, ints, f.low); high = omega (arith, ints, f.high); same = f.same });
         leaves = tt;
         effect = u;
         count = one_noted w.heads f.head_interval k count;
         heads = f.heads;
       } in
-      let back' : Below n (At q) = subst (λ z. Below n z) hd.1 back in
-      let top = inner_top f.head q x f.same (subst (λ z. SameShape z x) hd.1 shape) in
+      let back' : Below n (At q) = subst (λ z. Below n z) hd.place back in
+      let top = inner_top f.head q x f.same (subst (λ z. SameShape z x) hd.place shape) in
       let effect = table_effect (turn_word plus) in
       let last = λ (o : Walk). then_do (joins o.leaves o) (λ j. Ok (record j { place = dropped j.place; leaves = out })) in
       let g = found_from lim e room hs A B A B k1 m x a b c d (k + (1 + loops body)) (dropped x) l (going (Some f.head.shape) More body w1) (λ m. then_do (takes lim effect keep m) (λ n. then_do (returns_to (At f.head) n) last))
@@ -427,22 +427,22 @@ module _ (lim : Limits) (e : Effect) (room : Keeps lim e) (zs ys : Known) (hs : 
   query_do_found body plus k Unreachable l h x m n a b c d ca db tight enough (At p) w out hd i j u count o shape follows leads back inx skips = absurd i
   query_do_found body plus k (Doubled p0) l h x m n a b c d ca db tight enough (At p) w out hd i j u count o shape follows leads back inx skips = absurd i
   query_do_found body plus k (At p0) l h x m n a b c d ca db tight enough (At p) w out hd i j u count o shape follows leads back inx skips =
-      let q = hd.0 in
+      let q = hd.stand in
       let w0 = record w { leaves = Unreachable } in
-      let f = head_found hs given a b k p p0 q w0 are (enough_at (k + (1 + loops body)) (k + 1) (omega arith) enough) tight i hd.2 hd.3 hd.4 count o in
+      let f = head_found hs given a b k p p0 q w0 are (enough_at (k + (1 + loops body)) (k + 1) (omega arith) enough) tight i hd.inside hd.low hd.high count o in
       let A = f.below in
       let B = f.above in
       let k1 = k + 1 + loops body in
       let w1 = noting f.head_interval (At f.head) w0 in
       let r1 : WalkRel A B A B (k + 1) w1 h x = record {
-        place = subst (λ z. BelowBy A B (At f.head) z) (sym hd.1) (record { low = omega (arith, ints, f.low); high = omega (arith, ints, f.high); same = f.same });
+        place = subst (λ z. BelowBy A B (At f.head) z) (sym hd.place) (record { low = omega (arith, ints, f.low); high = omega (arith, ints, f.high); same = f.same });
         leaves = tt;
         effect = u;
         count = one_noted w.heads f.head_interval k count;
         heads = f.heads;
       } in
-      let back' : Below n (At q) = subst (λ z. Below n z) hd.1 back in
-      let top = inner_top f.head q x f.same (subst (λ z. SameShape z x) hd.1 shape) in
+      let back' : Below n (At q) = subst (λ z. Below n z) hd.place back in
+      let top = inner_top f.head q x f.same (subst (λ z. SameShape z x) hd.place shape) in
       let effect = table_effect (turn_word plus) in
       let began : BelowBy a b (At p) x = below_then a b (At p) (At p0) x i skips in
       let drops = λ (q : Walk). then_do (joins q.leaves q) (λ j. Ok (record j { place = dropped j.place; leaves = out })) in
@@ -503,15 +503,15 @@ module _ (lim : Limits) (e : Effect) (room : Keeps lim e) (zs ys : Known) (hs : 
         simple_found (called_effect next (effect_of zs x)) (called_effect next (effect_of ys x)) k f.0 l t a b c d v (called_in next (effect_of zs x) (effect_of ys x) (less.definitions x)) f.2 q)
     item_found (Text kind x n) next k s l t f top tl a b c d ca db tight enough w r = simple_found (table_effect (text_word kind)) (table_effect (text_word kind)) k s l t a b c d w (effect_in_same (table_effect (text_word kind))) f r
     item_found (If first second) next k s l t f top tl a b c d ca db tight enough w r =
-        let sp = decides_found lim e room hs a b c d k s f.0 f.1 l w f.2 r in
+        let sp = decides_found lim e room hs a b c d k s f.on_true f.on_false l w f.decides r in
         let m = sp.found.walk in
         let k2 = k + (loops first + loops second) in
         let rest =
         found_from lim e room hs a b c d (k + loops first) t l a b c d k2 t l (going top (branch_next next) first m)
         (λ i. then_do (going top (branch_next next) second (record i { place = zero_way w.place m.place })) (λ j. joins i.place j))
-        (walk_found first (branch_next next) k f.0 l t f.3 top tl a b c d ca db tight (enough_at k2 (k + loops first) (omega arith) enough) m sp.found.rel) (λ v1 q1.
+        (walk_found first (branch_next next) k f.on_true l t f.first top tl a b c d ca db tight (enough_at k2 (k + loops first) (omega arith) enough) m sp.found.rel) (λ v1 q1.
         found_from lim e room hs a b c d (k + loops first + loops second) t l a b c d k2 t l (going top (branch_next next) second (record v1 { place = zero_way w.place m.place })) (λ j. joins v1.place j)
-        (walk_found second (branch_next next) (k + loops first) f.1 l t f.4 top tl a b c d ca db tight
+        (walk_found second (branch_next next) (k + loops first) f.on_false l t f.second top tl a b c d ca db tight
         (enough_at k2 (k + loops first + loops second) (omega arith) enough) (record v1 { place = zero_way w.place m.place })
         (record { place = sp.zero; leaves = q1.leaves; effect = q1.effect; count = q1.count; heads = q1.heads })) (λ v2 q2.
         found_as lim e room hs a b c d (k + loops first + loops second) k2 (joins v1.place v2) t l (omega arith) (joins_found lim e room hs a b c d (k + loops first + loops second) v1.place t l v2 q1.place q2))) in
@@ -528,30 +528,33 @@ module _ (lim : Limits) (e : Effect) (room : Keeps lim e) (zs ys : Known) (hs : 
           rel = rest.rel;
         }
     item_found (Until body) next k s l t f top tl a b c d ca db tight enough w r =
-        until_found body k s l f.0 f.2 t top a b c d tl ca db tight enough w.place w f.1 r.place r.leaves r.effect r.count r.heads (walk_found body More (k + 1) f.0 l f.2 f.3) f.4 f.5
+        until_found body k s l f.head f.test t top a b c d tl ca db tight enough w.place w f.enters r.place r.leaves r.effect r.count r.heads (walk_found body More (k + 1) f.head l f.test f.items) f.flag f.again
     item_found (While test body) next k s l t f top tl a b c d ca db tight enough w r =
-        while_found test body k s l f.0 f.2 f.4 f.6 t top a b c d tl ca db tight enough w.place w f.1 r.place r.leaves r.effect r.count r.heads
-        (walk_found test Flag (k + 1) f.0 l f.2 f.3) f.5 (walk_found body More (k + 1 + loops test) f.4 l f.6 f.7) f.8
+        while_found test body k s l f.head f.test f.on_true f.turn t top a b c d tl ca db tight enough w.place w f.enters r.place r.leaves r.effect r.count r.heads
+        (walk_found test Flag (k + 1) f.head l f.test f.test_items) f.decides (walk_found body More (k + 1 + loops test) f.on_true l f.turn f.items) f.again
     item_found (Do body plus) next k s l t f top tl a b c d ca db tight enough w r =
-        subst (λ z. WalkFound a b c d (k + (1 + loops body)) (item_walk lim zs given top next (Do body plus) w) z l) (sym f.12)
-        (found_from lim e room hs a b c d k f.0 l a b c d (k + (1 + loops body)) (dropped f.4) l (takes lim (table_effect table.Do) push_loop w) (λ i. turning body plus w.leaves (record i { leaves = Unreachable }))
-        (takes_found lim e room hs a b c d k (table_effect table.Do) (table_effect table.Do) push_loop s f.0 l w (effect_in_same (table_effect table.Do)) f.1 r) (λ v q.
-        do_found body plus k f.0 l f.2 f.4 f.6 f.8 a b c d ca db tight enough v.place v w.leaves f.3 q.place r.leaves q.effect q.count q.heads f.5 (walk_found body More (k + 1) f.2 f.4 f.6 f.7) f.9 f.10 f.11))
+        subst (λ z. WalkFound a b c d (k + (1 + loops body)) (item_walk lim zs given top next (Do body plus) w) z l) (sym f.after_loop)
+        (found_from lim e room hs a b c d k f.start l a b c d (k + (1 + loops body)) (dropped f.out) l (takes lim (table_effect table.Do) push_loop w) (λ i. turning body plus w.leaves (record i { leaves = Unreachable }))
+        (takes_found lim e room hs a b c d k (table_effect table.Do) (table_effect table.Do) push_loop s f.start l w (effect_in_same (table_effect table.Do)) f.begins r) (λ v q.
+        do_found body plus k f.start l f.head f.out f.turn f.next a b c d ca db tight enough v.place v w.leaves f.enters q.place r.leaves q.effect q.count q.heads f.same
+        (walk_found body More (k + 1) f.head f.out f.turn f.items) f.turns f.again f.leaves))
     item_found (Again body) next k s l t f top tl a b c d ca db tight enough w r =
-        subst (λ z. WalkFound a b c d (k + (1 + loops body)) (item_walk lim zs given top next (Again body) w) z l) (sym f.5)
-        (again_found body k s l f.0 f.2 top a b c d tl ca db tight enough w.place w f.1 r.place r.leaves r.effect r.count r.heads (walk_found body More (k + 1) f.0 l f.2 f.3) f.4)
+        subst (λ z. WalkFound a b c d (k + (1 + loops body)) (item_walk lim zs given top next (Again body) w) z l) (sym f.none_after)
+        (again_found body k s l f.head f.turn top a b c d tl ca db tight enough w.place w f.enters r.place r.leaves r.effect r.count r.heads (walk_found body More (k + 1) f.head l f.turn f.items) f.again)
     item_found (QDo body plus) next k s l t f top tl a b c d ca db tight enough w r =
-        subst (λ z. WalkFound a b c d (k + (1 + loops body)) (item_walk lim zs given top next (QDo body plus) w) z l) (sym f.13)
-        (found_from lim e room hs a b c d k f.0 l a b c d (k + (1 + loops body)) (dropped f.4) l (takes lim (table_effect table.QDo) push_loop w) (λ i. query_turning body plus i.place w.leaves (record i { leaves = Unreachable }))
-        (takes_found lim e room hs a b c d k (table_effect table.QDo) (table_effect table.QDo) push_loop s f.0 l w (effect_in_same (table_effect table.QDo)) f.1 r) (λ v q.
-        query_do_found body plus k f.0 l f.2 f.4 f.6 f.8 a b c d ca db tight enough v.place v w.leaves f.3 q.place r.leaves q.effect q.count q.heads f.5 (walk_found body More (k + 1) f.2 f.4 f.6 f.7) f.9 f.10 f.11 f.12))
+        let g = f.0 in
+        subst (λ z. WalkFound a b c d (k + (1 + loops body)) (item_walk lim zs given top next (QDo body plus) w) z l) (sym g.after_loop)
+        (found_from lim e room hs a b c d k g.start l a b c d (k + (1 + loops body)) (dropped g.out) l (takes lim (table_effect table.QDo) push_loop w) (λ i. query_turning body plus i.place w.leaves (record i { leaves = Unreachable }))
+        (takes_found lim e room hs a b c d k (table_effect table.QDo) (table_effect table.QDo) push_loop s g.start l w (effect_in_same (table_effect table.QDo)) g.begins r) (λ v q.
+        query_do_found body plus k g.start l g.head g.out g.turn g.next a b c d ca db tight enough v.place v w.leaves g.enters q.place r.leaves q.effect q.count q.heads g.same
+        (walk_found body More (k + 1) g.head g.out g.turn g.items) g.turns g.again g.leaves f.1))
     item_found (Case arms rest) next k s l t f top tl a b c d ca db tight enough w r =
         arms_found arms (branch_next next) rest (λ m. then_do (going top More rest m) (takes lim (table_effect table.EndCase) keep)) (loops rest) k s l t f top tl a b c d ca db tight enough
         (λ k' s' v g enough' q.
-        found_from lim e room hs a b c d (k' + loops rest) g.0 l a b c d (k' + loops rest) t l (going top More rest v)
-        (takes lim (table_effect table.EndCase) keep) (walk_found rest More k' s' l g.0 g.1 top tl a b c d ca db tight enough' v q) (λ v1 q1.
-        let x = takes_found lim e room hs a b c d (k' + loops rest) (table_effect table.EndCase) (table_effect table.EndCase) keep g.0 g.2 l v1 (effect_in_same (table_effect table.EndCase)) g.3 q1 in
-        record { walk = x.walk; is = x.is; rel = record { place = below_then a b x.walk.place g.2 t x.rel.place g.4; leaves = x.rel.leaves; effect = x.rel.effect; count = x.rel.count; heads = x.rel.heads } }))
+        found_from lim e room hs a b c d (k' + loops rest) g.last l a b c d (k' + loops rest) t l (going top More rest v)
+        (takes lim (table_effect table.EndCase) keep) (walk_found rest More k' s' l g.last g.items top tl a b c d ca db tight enough' v q) (λ v1 q1.
+        let x = takes_found lim e room hs a b c d (k' + loops rest) (table_effect table.EndCase) (table_effect table.EndCase) keep g.last g.end l v1 (effect_in_same (table_effect table.EndCase)) g.drops q1 in
+        record { walk = x.walk; is = x.is; rel = record { place = below_then a b x.walk.place g.end t x.rel.place g.below; leaves = x.rel.leaves; effect = x.rel.effect; count = x.rel.count; heads = x.rel.heads } }))
         w r
     item_found Leave next k s l t f top tl a b c d ca db tight enough w r =
         found_from lim e room hs a b c d k f.0 l a b c d (k + 0) t l (takes lim (table_effect table.Leave) keep w) (leaving top)
@@ -604,9 +607,9 @@ module _ (lim : Limits) (e : Effect) (room : Keeps lim e) (zs ys : Known) (hs : 
 
     -- arms of a case, where what is last walks over n loops to within t
     arms_found : (arms : Arms) (next : Next) (rest : Nodes) (go : Walk → Walked) (n k : ℕ) (s l t : Place) →
-        ArmsFit ys hs e next arms (CaseEnds ys hs e rest l t) k s l t → (top : Option Shape) → TopIs top l → (a b c d : ℕ) → c ≤ a → d ≤ b → Tight given a b →
+        ArmsFit ys hs e next arms (LastItems ys hs e rest l t) k s l t → (top : Option Shape) → TopIs top l → (a b c d : ℕ) → c ≤ a → d ≤ b → Tight given a b →
         Enough given (k + (loops_in_arms arms + n)) →
-        ((k' : ℕ) (s' : Place) (v : Walk) → CaseEnds ys hs e rest l t k' s' → Enough given (k' + n) → WalkRel a b c d k' v s' l →
+        ((k' : ℕ) (s' : Place) (v : Walk) → LastItems ys hs e rest l t k' s' → Enough given (k' + n) → WalkRel a b c d k' v s' l →
         WalkFound a b c d (k' + n) (go v) t l) → (w : Walk) → WalkRel a b c d k w s l →
         WalkFound a b c d (k + (loops_in_arms arms + n)) (arms_walk lim zs given top next arms go w) t l
     arms_found NoArm next rest go n k s l t f top tl a b c d ca db tight enough each w r =
@@ -617,21 +620,21 @@ module _ (lim : Limits) (e : Effect) (room : Keeps lim e) (zs ys : Known) (hs : 
         let k2 = k + loops tests + loops body in
         let k3 = k2 + (loops_in_arms others + n) in
         let on_end = λ (i b : Walk). then_do (arms_walk lim zs given top next others go (record b { place = i.place })) (λ u. joins b.place u) in
-        found_from lim e room hs a b c d k1 f.0 l a b c d all t l (going top More tests w)
+        found_from lim e room hs a b c d k1 f.test l a b c d all t l (going top More tests w)
         (λ m.
         then_do (takes lim (of_effect (negsuc 0)) keep m)
         (λ i. then_do (takes lim (of_effect (negsuc 1)) keep (record i { place = m.place })) (λ j. then_do (going top next body j) (on_end i))))
-        (walk_found tests More k s l f.0 f.1 top tl a b c d ca db tight (enough_at all k1 (omega arith) enough) w r) (λ v q.
-        found_from lim e room hs a b c d k1 f.2 l a b c d all t l (takes lim (of_effect (negsuc 0)) keep v)
+        (walk_found tests More k s l f.test f.tests top tl a b c d ca db tight (enough_at all k1 (omega arith) enough) w r) (λ v q.
+        found_from lim e room hs a b c d k1 f.on_other l a b c d all t l (takes lim (of_effect (negsuc 0)) keep v)
         (λ i. then_do (takes lim (of_effect (negsuc 1)) keep (record i { place = v.place })) (λ j. then_do (going top next body j) (on_end i)))
-        (takes_found lim e room hs a b c d k1 (of_effect (negsuc 0)) (of_effect (negsuc 0)) keep f.0 f.2 l v (effect_in_same (of_effect (negsuc 0))) f.3 q) (λ i qi.
-        found_from lim e room hs a b c d k1 f.4 l a b c d all t l (takes lim (of_effect (negsuc 1)) keep (record i { place = v.place })) (λ j. then_do (going top next body j) (on_end i))
-        (takes_found lim e room hs a b c d k1 (of_effect (negsuc 1)) (of_effect (negsuc 1)) keep f.0 f.4 l (record i { place = v.place })
-        (effect_in_same (of_effect (negsuc 1))) f.5
+        (takes_found lim e room hs a b c d k1 (of_effect (negsuc 0)) (of_effect (negsuc 0)) keep f.test f.on_other l v (effect_in_same (of_effect (negsuc 0))) f.to_other q) (λ i qi.
+        found_from lim e room hs a b c d k1 f.on_equal l a b c d all t l (takes lim (of_effect (negsuc 1)) keep (record i { place = v.place })) (λ j. then_do (going top next body j) (on_end i))
+        (takes_found lim e room hs a b c d k1 (of_effect (negsuc 1)) (of_effect (negsuc 1)) keep f.test f.on_equal l (record i { place = v.place })
+        (effect_in_same (of_effect (negsuc 1))) f.to_equal
         (record { place = q.place; leaves = qi.leaves; effect = qi.effect; count = qi.count; heads = qi.heads })) (λ j qj.
         found_from lim e room hs a b c d k2 t l a b c d all t l (going top next body j) (on_end i)
-        (walk_found body next k1 f.4 l t f.6 top tl a b c d ca db tight (enough_at all k2 (omega arith) enough) j qj) (λ v2 q2.
+        (walk_found body next k1 f.on_equal l t f.items top tl a b c d ca db tight (enough_at all k2 (omega arith) enough) j qj) (λ v2 q2.
         found_from lim e room hs a b c d k3 t l a b c d all t l (arms_walk lim zs given top next others go (record v2 { place = i.place })) (λ u. joins v2.place u)
-        (arms_found others next rest go n k2 f.2 l t f.7 top tl a b c d ca db tight (enough_at all k3 (omega arith) enough) each (record v2 { place = i.place })
+        (arms_found others next rest go n k2 f.on_other l t f.others top tl a b c d ca db tight (enough_at all k3 (omega arith) enough) each (record v2 { place = i.place })
         (record { place = qi.place; leaves = q2.leaves; effect = q2.effect; count = q2.count; heads = q2.heads })) (λ u qu.
         found_as lim e room hs a b c d k3 all (joins v2.place u) t l (omega arith) (joins_found lim e room hs a b c d k3 v2.place t l u q2.place qu))))))

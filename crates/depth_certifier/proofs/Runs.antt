@@ -15,7 +15,7 @@ use Rattle.depth_certifier.specs.Effects.{Known, idle, effect_of, Return}
 use Rattle.depth_certifier.specs.Certificate.{loops, BodyFits, TokenIn, Limits, definition_limits, ExitKeeps, Keeps, Cert, known_of, BodiesFit, IsValid}
 use Rattle.depth_certifier.specs.Soundness.{main_effect, end_height, most_cells, most_return_cells, RunsWithin, CertifiedRunsFit}
 use Rattle.depth_certifier.proofs.SourcePlaces.{Stood, stood_more, below_same}
-use Rattle.depth_certifier.proofs.Work.{FirstLeads, opens, enter}
+use Rattle.depth_certifier.proofs.Work.{at_once, FirstLeads, opens, enter}
 use Rattle.depth_certifier.proofs.Frames.{KeepsFrames, Onward, Moves}
 use Rattle.depth_certifier.proofs.Steps.{literal_moves, word_moves}
 use Rattle.depth_certifier.proofs.Structures.{if_moves, true_end_moves, until_moves, while_moves, repeat_moves, again_moves, do_moves, query_do_moves}
@@ -33,19 +33,19 @@ module _ (p : SourceProgram) (known : Known) (heads : List (ℤ × ℤ)) (main :
   first_moves s h IsExit place l f st = exit_moves p known heads main most return_most high lower limit ends h.effect h.base s.callers h.bounds h.callers s.world s.work s.entries s.cells place f st h.few h.room
   first_moves s h (IsLiteral value work) place l f st =
       literal_moves p known heads main most return_most high lower limit ends h.effect h.base s.callers h.bounds h.callers s.world value work s.work
-      s.entries s.cells place f.3 l f.4 st h.few h.room (f.5, f.6, f.7)
+      s.entries s.cells place f.place l f.item st h.few h.room f.rest
   first_moves s h (IsWord word work) place l f st =
-      word_moves p known heads main most return_most high lower limit ends h.effect h.base s.callers h.bounds h.callers s.world tokens f.0 word work s.work
-      s.entries s.cells place f.3 l f.4 st h.few h.room (f.5, f.6, f.7)
+      word_moves p known heads main most return_most high lower limit ends h.effect h.base s.callers h.bounds h.callers s.world tokens f.next word work s.work
+      s.entries s.cells place f.place l f.item st h.few h.room f.rest
   first_moves s h (IsCall d work) place l f st =
-      call_moves p known heads main most return_most high lower limit ends h.effect h.base s.callers h.bounds h.callers s.world bodies limits d f.0 work
-      s.work s.entries s.cells place f.3 l f.1 f.4 st h.few h.room (f.5, f.6, f.7)
+      call_moves p known heads main most return_most high lower limit ends h.effect h.base s.callers h.bounds h.callers s.world bodies limits d f.next work
+      s.work s.entries s.cells place f.place l f.matches f.item st h.few h.room f.rest
   first_moves s h (IsChild d a work) place l f st =
-      child_moves p known heads main most return_most high lower limit ends h.effect h.base s.callers h.bounds h.callers s.world bodies limits d a f.0 work
-      s.work s.entries s.cells place f.4.0 f.3 l f.1 f.4.1 f.4.2 st h.few h.room (f.5, f.6, f.7)
+      child_moves p known heads main most return_most high lower limit ends h.effect h.base s.callers h.bounds h.callers s.world bodies limits d a f.next work
+      s.work s.entries s.cells place f.item.0 f.place l f.matches f.item.1 f.item.2 st h.few h.room f.rest
   first_moves s h (IsText kind a n work) place l f st =
       text_moves p known heads main most return_most high lower limit ends h.effect h.base s.callers h.bounds h.callers s.world kind a n work s.work
-      s.entries s.cells place f.3 l f.4 st h.few h.room (f.5, f.6, f.7)
+      s.entries s.cells place f.place l f.item st h.few h.room f.rest
   first_moves s h (IsIf one other work) place l f st = if_moves p known heads main most return_most high lower limit ends h.effect h.base s.callers h.bounds h.callers s.world one other work s.work s.entries s.cells place l f st h.few h.room
   first_moves s h (IsTrueEnd work) place l f st = true_end_moves p known heads main most return_most high lower limit ends h.effect h.base s.callers h.bounds h.callers s.world work s.work s.entries s.cells place l f st h.few h.room
   first_moves s h (IsUntil body work) place l f st = until_moves p known heads main most return_most high lower limit ends h.effect h.base s.callers h.bounds h.callers s.world body work s.work s.entries s.cells place l f st h.few h.room
@@ -196,14 +196,14 @@ module _ (p : SourceProgram) (z : Cert) (valid : IsValid p z) where
   start input =
       let b = bodies p.main_body in
       let lim = limits p.main_body in
-      let w = enter known z.heads main Return (body_of p p.main_body) b.0 (At entry) Unreachable b.1.0 [] b.1.1 refl (b.1.0, below_same b.1.0, (b.1.2, refl)) in
+      let w = enter known z.heads main Return (body_of p p.main_body) b.0 (At entry) Unreachable b.1.0 [] b.1.1 refl (at_once known z.heads main [] b.1.0 Unreachable (b.1.2, refl)) in
       record {
         effect = main;
         base = 0;
-        place = w.0;
+        place = w.place;
         loop_end = Unreachable;
-        leads = w.2;
-        stood = stood_more 0 (At entry) w.0 [] [] w.1 (record { low = omega (arith, ints); high = omega (arith, ints); same = refl });
+        leads = w.leads;
+        stood = stood_more 0 (At entry) w.place [] [] w.below (record { low = omega (arith, ints); high = omega (arith, ints); same = refl });
         bounds = record { need = main_keeps.need; peak = omega arith; back = omega arith; need_limit = lim.0; peak_limit = lim.1 };
         callers = (refl, refl);
         few = omega arith;

@@ -18,9 +18,9 @@ use Rattle.depth_certifier.specs.Certificate.{after, Allows, Leads, Doubles, dou
 use Rattle.forth_program.specs.Tail.{ends_body}
 use Rattle.forth_program.specs.Heights.{address_height, entries_height, callers_height, peak_of, back_of, token_back, execute_back, DepthFits}
 use Rattle.depth_certifier.specs.Soundness.{end_height}
-use Rattle.depth_certifier.proofs.SourcePlaces.{shape_of, Inside, Stood, LeavesWithin, below_same, below_then}
+use Rattle.depth_certifier.proofs.SourcePlaces.{shape_of, Inside, Stood, LeavesWithin}
 use Rattle.depth_certifier.proofs.Words.{When, Kept, changes, has_meaning, meaning_kept}
-use Rattle.depth_certifier.proofs.Work.{WorkFrom}
+use Rattle.depth_certifier.proofs.Work.{WorkFrom, from_more, at_once, of_item}
 use Rattle.depth_certifier.proofs.Frames.{Bounds, CallersFit, KeepsFrames, Onward, holds, need_met, peak_met, back_met, Reaches, reaches, kept_onward, Moves}
 
 int_le_true : (a b : ℤ) → int_le a b ≡ true → a ≤ℤ b
@@ -89,7 +89,7 @@ module _ (p : SourceProgram) (known : Known) (heads : List (ℤ × ℤ)) (main :
   literal_moves value work w es c Unreachable t l leads st few room f = absurd st
   literal_moves value work w es c (Doubled q) t l leads st few room f = absurd leads
   literal_moves value work w es c (At q) t l leads st few room f =
-      let pk = peak (table_effect table.Literal) q leads.0 es c leads.2 st in
+      let pk = peak (table_effect table.Literal) q leads.shape es c leads.allows st in
       let r = reach (table_effect table.Literal) keep q t (length c) es es (value ∷ c) leads st (changes 0 1 (length c) (suc (length c)) (omega arith)) refl in
       record { data_cells = omega (arith, pk, lower); return_cells = omega (arith, room, bounds.back); depth = tt; executes = omega (arith, room, bounds.back); onward = on work es (value ∷ c) t l f r.stood (omega (arith, pk)) r.room }
 
@@ -99,18 +99,18 @@ module _ (p : SourceProgram) (known : Known) (heads : List (ℤ × ℤ)) (main :
   meaning_onward : (word : Word) (work w : List Work) (es : List Entry) (c : List ℕ) (q : Stand) (t l : Place) → Leads e (table_effect word) (shape_after word) (At q) t → Inside base q (length c) es → From work t l →
       (b : Bool) → has_meaning word ≡ b → ((shape : Shape) → shape_after word shape ≡ kept_by b shape) → word_step p word c es (here work es c) ≡ on_cells (meaning word c world) (here work es c) →
       Onward known heads main most return_most (word_step p word c es (here work es c))
-  meaning_onward word work w es c q t l leads st f false has keeps is = (let none : None ≡ Some leads.0 = sym (keeps q.shape) ∙ leads.1 in cc (none))
+  meaning_onward word work w es c q t l leads st f false has keeps is = (let none : None ≡ Some leads.shape = sym (keeps q.shape) ∙ leads.changes in cc (none))
   meaning_onward word work w es c q t l leads st f true has keeps is =
       let kept : Kept (table_effect word).exit (length c) (meaning word c world) =
       (let k =
-      meaning_kept world word c (need (table_effect word) q leads.0 es c leads.2 st) in
+      meaning_kept world word c (need (table_effect word) q leads.shape es c leads.allows st) in
       subst (λ b. When b (Kept (table_effect word).exit (length c) (meaning word c world))) has k) in
       subst (Onward known heads main most return_most) (sym is)
       (kept_onward known heads main most return_most (table_effect word).exit (length c) (meaning word c world) (here work es c) kept
       (λ c' w' h.
       let r = reach (table_effect word) (shape_after word) q t (length c) es es c' leads st h (keeps (shape_of es)) in
       holds known heads main most return_most e base callers bounds below work es c' w' t l f r.stood
-      (let top = top_of (table_effect word).exit (table_effect word).peak (length c) (length c') (exit_below_peak word) h in omega (arith, top, peak (table_effect word) q leads.0 es c leads.2 st)) r.room))
+      (let top = top_of (table_effect word).exit (table_effect word).peak (length c) (length c') (exit_below_peak word) h in omega (arith, top, peak (table_effect word) q leads.shape es c leads.allows st)) r.room))
 
   -- ---- words on return entries
 
@@ -118,47 +118,47 @@ module _ (p : SourceProgram) (known : Known) (heads : List (ℤ × ℤ)) (main :
       LeavesWithin (table_effect word).exit (length c) (length c') → shape_after word (shape_of es) ≡ Some (shape_of es') → length c' ≤ length c + (table_effect word).peak → KeepsFrames known heads main most return_most (here work es' c')
   entries_word work w es es' c c' word q t l leads st f h ch top =
       let r = reach (table_effect word) (shape_after word) q t (length c) es es' c' leads st h ch in
-      on work es' c' t l f r.stood (let pk = peak (table_effect word) q leads.0 es c leads.2 st in omega (arith, pk, top)) r.room
+      on work es' c' t l f r.stood (let pk = peak (table_effect word) q leads.shape es c leads.allows st in omega (arith, pk, top)) r.room
 
   none_some : {A : Type 0} (x : Shape) → None ≡ Some x → A
   none_some x h = cc
 
   to_r : (work w : List Work) (es : List Entry) (c : List ℕ) (q : Stand) (t l : Place) → Leads e (table_effect ToR) (shape_after ToR) (At q) t → Inside base q (length c) es → From work t l →
       Onward known heads main most return_most (word_step p ToR c es (here work es c))
-  to_r work w es [] q t l leads st f = absurd (let n = need (table_effect ToR) q leads.0 es [] leads.2 st in omega (arith, n))
+  to_r work w es [] q t l leads st f = absurd (let n = need (table_effect ToR) q leads.shape es [] leads.allows st in omega (arith, n))
   to_r work w es (x ∷ c) q t l leads st f = entries_word work w es (Cell x ∷ es) (x ∷ c) c ToR q t l leads st f (changes 1 0 (suc (length c)) (length c) (omega arith)) refl (omega arith)
 
   from_r : (work w : List Work) (es : List Entry) (c : List ℕ) (q : Stand) (t l : Place) → Leads e (table_effect RFrom) (shape_after RFrom) (At q) t → Inside base q (length c) es → From work t l →
       Onward known heads main most return_most (word_step p RFrom c es (here work es c))
-  from_r work w [] c q t l leads st f = none_some leads.0 (ap (shape_after RFrom) st.same ∙ leads.1)
-  from_r work w (Loop limit index ∷ es) c q t l leads st f = none_some leads.0 (ap (shape_after RFrom) st.same ∙ leads.1)
+  from_r work w [] c q t l leads st f = none_some leads.shape (ap (shape_after RFrom) st.same ∙ leads.changes)
+  from_r work w (Loop limit index ∷ es) c q t l leads st f = none_some leads.shape (ap (shape_after RFrom) st.same ∙ leads.changes)
   from_r work w (Cell x ∷ es) c q t l leads st f = entries_word work w (Cell x ∷ es) es c (x ∷ c) RFrom q t l leads st f (changes 0 1 (length c) (suc (length c)) (omega arith)) refl (omega arith)
 
   r_fetch : (work w : List Work) (es : List Entry) (c : List ℕ) (q : Stand) (t l : Place) → Leads e (table_effect RFetch) (shape_after RFetch) (At q) t → Inside base q (length c) es → From work t l →
       Onward known heads main most return_most (word_step p RFetch c es (here work es c))
-  r_fetch work w [] c q t l leads st f = none_some leads.0 (ap (shape_after RFetch) st.same ∙ leads.1)
-  r_fetch work w (Loop limit index ∷ es) c q t l leads st f = none_some leads.0 (ap (shape_after RFetch) st.same ∙ leads.1)
+  r_fetch work w [] c q t l leads st f = none_some leads.shape (ap (shape_after RFetch) st.same ∙ leads.changes)
+  r_fetch work w (Loop limit index ∷ es) c q t l leads st f = none_some leads.shape (ap (shape_after RFetch) st.same ∙ leads.changes)
   r_fetch work w (Cell x ∷ es) c q t l leads st f = entries_word work w (Cell x ∷ es) (Cell x ∷ es) c (x ∷ c) RFetch q t l leads st f (changes 0 1 (length c) (suc (length c)) (omega arith)) refl (omega arith)
 
   index : (work w : List Work) (es : List Entry) (c : List ℕ) (q : Stand) (t l : Place) → Leads e (table_effect Index) (shape_after Index) (At q) t → Inside base q (length c) es → From work t l →
       Onward known heads main most return_most (word_step p Index c es (here work es c))
-  index work w [] c q t l leads st f = none_some leads.0 (ap (shape_after Index) st.same ∙ leads.1)
-  index work w (Cell x ∷ es) c q t l leads st f = none_some leads.0 (ap (shape_after Index) st.same ∙ leads.1)
+  index work w [] c q t l leads st f = none_some leads.shape (ap (shape_after Index) st.same ∙ leads.changes)
+  index work w (Cell x ∷ es) c q t l leads st f = none_some leads.shape (ap (shape_after Index) st.same ∙ leads.changes)
   index work w (Loop limit i ∷ es) c q t l leads st f = entries_word work w (Loop limit i ∷ es) (Loop limit i ∷ es) c (i ∷ c) Index q t l leads st f (changes 0 1 (length c) (suc (length c)) (omega arith)) refl (omega arith)
 
   outer_index : (work w : List Work) (es : List Entry) (c : List ℕ) (q : Stand) (t l : Place) → Leads e (table_effect OuterIndex) (shape_after OuterIndex) (At q) t → Inside base q (length c) es → From work t l →
       Onward known heads main most return_most (word_step p OuterIndex c es (here work es c))
-  outer_index work w [] c q t l leads st f = none_some leads.0 (ap (shape_after OuterIndex) st.same ∙ leads.1)
-  outer_index work w (Cell x ∷ es) c q t l leads st f = none_some leads.0 (ap (shape_after OuterIndex) st.same ∙ leads.1)
-  outer_index work w (Loop limit i ∷ []) c q t l leads st f = none_some leads.0 (ap (shape_after OuterIndex) st.same ∙ leads.1)
-  outer_index work w (Loop limit i ∷ Cell x ∷ es) c q t l leads st f = none_some leads.0 (ap (shape_after OuterIndex) st.same ∙ leads.1)
+  outer_index work w [] c q t l leads st f = none_some leads.shape (ap (shape_after OuterIndex) st.same ∙ leads.changes)
+  outer_index work w (Cell x ∷ es) c q t l leads st f = none_some leads.shape (ap (shape_after OuterIndex) st.same ∙ leads.changes)
+  outer_index work w (Loop limit i ∷ []) c q t l leads st f = none_some leads.shape (ap (shape_after OuterIndex) st.same ∙ leads.changes)
+  outer_index work w (Loop limit i ∷ Cell x ∷ es) c q t l leads st f = none_some leads.shape (ap (shape_after OuterIndex) st.same ∙ leads.changes)
   outer_index work w (Loop limit i ∷ Loop limit' j ∷ es) c q t l leads st f =
       entries_word work w (Loop limit i ∷ Loop limit' j ∷ es) (Loop limit i ∷ Loop limit' j ∷ es) c (j ∷ c) OuterIndex q t l leads st f (changes 0 1 (length c) (suc (length c)) (omega arith)) refl (omega arith)
 
   unloop : (work w : List Work) (es : List Entry) (c : List ℕ) (q : Stand) (t l : Place) → Leads e (table_effect Unloop) (shape_after Unloop) (At q) t → Inside base q (length c) es → From work t l →
       Onward known heads main most return_most (word_step p Unloop c es (here work es c))
-  unloop work w [] c q t l leads st f = none_some leads.0 (ap (shape_after Unloop) st.same ∙ leads.1)
-  unloop work w (Cell x ∷ es) c q t l leads st f = none_some leads.0 (ap (shape_after Unloop) st.same ∙ leads.1)
+  unloop work w [] c q t l leads st f = none_some leads.shape (ap (shape_after Unloop) st.same ∙ leads.changes)
+  unloop work w (Cell x ∷ es) c q t l leads st f = none_some leads.shape (ap (shape_after Unloop) st.same ∙ leads.changes)
   unloop work w (Loop limit i ∷ es) c q t l leads st f = entries_word work w (Loop limit i ∷ es) es c c Unloop q t l leads st f (changes 0 0 (length c) (length c) (omega arith)) refl (omega arith)
 
   -- every word but EXECUTE
@@ -183,8 +183,8 @@ module _ (p : SourceProgram) (known : Known) (heads : List (ℤ × ℤ)) (main :
       x.back ≤ 1 + known.shared.back → ExitIn x.exit known.shared.exit → change q.shape ≡ Some q.shape →
       Leads e (execute_effect known.shared) keep (At q) t → Leads e x change (At (lowered q)) (after x.exit (lowered q) q.shape) × Below (after x.exit (lowered q) q.shape) t
   token_leads x change q t need peak back exit ch leads =
-      let same : q.shape ≡ leads.0 = (let h = leads.1 in cc (h)) in
-      let a = leads.2 in
+      let same : q.shape ≡ leads.shape = (let h = leads.changes in cc (h)) in
+      let a = leads.allows in
       let sums = ap size same in
       let allows : Allows e x (lowered q) q.shape = record {
         need = (let n = a.need in omega (arith, ints, n, need));
@@ -192,8 +192,8 @@ module _ (p : SourceProgram) (known : Known) (heads : List (ℤ × ℤ)) (main :
         back = (let n = a.back in omega (arith, n, back));
         room = (let n = a.back in omega (arith, n));
       } in
-      let r = exits x.exit known.shared.exit q leads.0 t same exit leads.3 leads.4 in
-      ((q.shape, ch, allows, refl, r.1), r.0)
+      let r = exits x.exit known.shared.exit q leads.shape t same exit leads.place leads.limits in
+      (record { shape = q.shape; changes = ch; allows = allows; place = refl; limits = r.1 }, r.0)
     where
       exits : (x y : Option (ℤ × ℤ)) (q : Stand) (shape : Shape) (t : Place) → q.shape ≡ shape → ExitIn x y → t ≡ after (moved_by (pos 0 -ℤ pos 1) y) q shape → InLimits t →
           Below (after x (lowered q) q.shape) t × InLimits (after x (lowered q) q.shape)
@@ -238,8 +238,8 @@ module _ (p : SourceProgram) (known : Known) (heads : List (ℤ × ℤ)) (main :
   child_leads : (b : Bool) (x : Effect) (q : Stand) (t : Place) → EffectIn (child_effect x) known.shared → Leads e (execute_effect known.shared) keep (At q) t →
       Leads e (table_effect table.Literal) keep (At (lowered q)) (At (raised q)) × Leads e (called_effect (next_by b) x) keep (At (raised q)) (after x.exit (raised q) q.shape) × Below (after x.exit (raised q) q.shape) t
   child_leads b x q t h leads =
-      let same : q.shape ≡ leads.0 = (let i = leads.1 in cc (i)) in
-      let a = leads.2 in
+      let same : q.shape ≡ leads.shape = (let i = leads.changes in cc (i)) in
+      let a = leads.allows in
       let one = one_more (is_jump (next_by b)) in
       let n1 = a.need in
       let n2 = a.peak in
@@ -262,8 +262,11 @@ module _ (p : SourceProgram) (known : Known) (heads : List (ℤ × ℤ)) (main :
         back = omega (arith, n3, h3, one);
         room = omega (arith, n3);
       } in
-      let r = exits x.exit known.shared.exit q leads.0 t same h.exit leads.3 leads.4 in
-      ((q.shape, refl, first, refl, limits), (q.shape, refl, second, refl, r.1), r.0)
+      let r = exits x.exit known.shared.exit q leads.shape t same h.exit leads.place leads.limits in (
+        record { shape = q.shape; changes = refl; allows = first; place = refl; limits = limits },
+        record { shape = q.shape; changes = refl; allows = second; place = refl; limits = r.1 },
+        r.0,
+      )
     where
       exits : (x y : Option (ℤ × ℤ)) (q : Stand) (shape : Shape) (t : Place) → q.shape ≡ shape → ExitIn (moved_by (pos 1) x) y → t ≡ after (moved_by (pos 0 -ℤ pos 1) y) q shape → InLimits t →
           Below (after x (raised q) q.shape) t × InLimits (after x (raised q) q.shape)
@@ -310,7 +313,8 @@ module _ (p : SourceProgram) (known : Known) (heads : List (ℤ × ℤ)) (main :
         let b = ends_body work in
         let r = token_fits b node q t l (tokens token node is) leads in
         on (Todo node ∷ work) es c (At (lowered q)) l
-        (At (lowered q), below_same (At (lowered q)), (next_by b, next_by_matches b, 0, r.0, r.1, f.0, below_then 0 0 r.0 t f.0 r.2 f.1, f.2))
+        (at_once known heads e (Todo node ∷ work) (At (lowered q)) l
+        (of_item known heads e (next_by b) node 0 (At (lowered q)) l r.0 work r.1 (next_by_matches b) (from_more known heads e work r.0 t l r.2 f)))
         (record { low = omega (arith, ints, st.low); high = omega (arith, ints, st.high); same = st.same }) (omega (arith, few)) room
 
     token_low : (node : Node) (work : List Work) → TokenIn known node → back_of (first_in node work) ≤ known.shared.back
@@ -335,10 +339,10 @@ module _ (p : SourceProgram) (known : Known) (heads : List (ℤ × ℤ)) (main :
 
     execute_moves : (work w : List Work) (es : List Entry) (c : List ℕ) (q : Stand) (t l : Place) → Leads e (execute_effect known.shared) keep (At q) t →
         Inside base q (length c) es → length c ≤ most → entries_height es ≤ e.back → From work t l → Step (IsWord Execute work) w es c
-    execute_moves work w es [] q t l leads st few room f = absurd (let n = need (execute_effect known.shared) q leads.0 es [] leads.2 st in omega (arith, n))
+    execute_moves work w es [] q t l leads st few room f = absurd (let n = need (execute_effect known.shared) q leads.shape es [] leads.allows st in omega (arith, n))
     execute_moves work w es (token ∷ c) q t l leads st few room f =
-        let pk = peak (execute_effect known.shared) q leads.0 es (token ∷ c) leads.2 st in
-        let bk = back (execute_effect known.shared) q leads.0 es (token ∷ c) leads.2 st in
+        let pk = peak (execute_effect known.shared) q leads.shape es (token ∷ c) leads.allows st in
+        let bk = back (execute_effect known.shared) q leads.shape es (token ∷ c) leads.allows st in
         record {
           data_cells = omega (arith, pk, lower);
           return_cells = omega (arith, bk);
@@ -351,12 +355,12 @@ module _ (p : SourceProgram) (known : Known) (heads : List (ℤ × ℤ)) (main :
     table_moves : (word : Word) (work w : List Work) (es : List Entry) (c : List ℕ) (q : Stand) (t l : Place) → Leads e (table_effect word) (shape_after word) (At q) t → Inside base q (length c) es →
         execute_back p (IsWord word work) c ≡ 0 → Onward known heads main most return_most (word_step p word c es (here work es c)) → Step (IsWord word work) w es c
     table_moves word work w es c q t l leads st executes onward =
-        let pk = peak (table_effect word) q leads.0 es c leads.2 st in
+        let pk = peak (table_effect word) q leads.shape es c leads.allows st in
         record {
           data_cells = omega (arith, pk, lower);
-          return_cells = back (table_effect word) q leads.0 es c leads.2 st;
+          return_cells = back (table_effect word) q leads.shape es c leads.allows st;
           depth = depth_fits word work c (omega (arith, pk, lower, limit));
-          executes = (let bk = back (table_effect word) q leads.0 es c leads.2 st in omega (arith, executes, bk));
+          executes = (let bk = back (table_effect word) q leads.shape es c leads.allows st in omega (arith, executes, bk));
           onward = onward;
         }
 

@@ -102,12 +102,12 @@ module _ (lim : Limits) (e : Effect) (room : Keeps lim e) (hs : List (ℤ × ℤ
     take_found x y change p Unreachable m l w h g i j u n o = absurd i
     take_found x y change p (Doubled q) m l w h g i j u n o = absurd g
     take_found x y change p (At q) m l w h g i j u n o =
-        let sh = g.0 in
-        let is : change p.shape ≡ Some sh = ap change i.same ∙ g.1 in
-        let allows = g.2 in
+        let sh = g.shape in
+        let is : change p.shape ≡ Some sh = ap change i.same ∙ g.changes in
+        let allows = g.allows in
         let sums = ap size i.same in
-        let nx : BelowBy a b (after x.exit p sh) m = subst (λ z. BelowBy a b (after x.exit p sh) z) (sym g.3) (after_below a b x.exit y.exit p q sh h.exit i) in
-        let ml : InLimits (after y.exit q sh) = subst InLimits g.3 g.4 in
+        let nx : BelowBy a b (after x.exit p sh) m = subst (λ z. BelowBy a b (after x.exit p sh) z) (sym g.place) (after_below a b x.exit y.exit p q sh h.exit i) in
+        let ml : InLimits (after y.exit q sh) = subst InLimits g.place g.limits in
         let n1 : need_at x p ≤ e.need = need_within x.need e.need a p.low q.low (let v = allows.need in omega (arith, ints, h.need, v)) i.low in
         let n2 : peak_at x p ≤ e.peak = peak_within x.peak e.peak b p.high q.high (let v = allows.peak in omega (arith, ints, h.peak, v)) i.high in
         let n3 : max (size p.shape + x.back) (size sh) ≤ e.back = (let v = allows.back in let v' = allows.room in omega (arith, h.back, v, v', sums)) in

@@ -18,12 +18,12 @@ use Rattle.forth_program.specs.Step.{act}
 use Rattle.depth_certifier.specs.declared.effect.Effect.{Effect}
 use Rattle.depth_certifier.specs.Place.{OfCell, OfLoop, Shape, Stand, Place, Unreachable, At, Doubled, entry, Below, from_zero}
 use Rattle.depth_certifier.specs.Effects.{table_effect, branch_next, Known, effect_of, Next, Return, Flag, More, called_effect, keep, push_loop, turn_word, text_word, of_effect}
-use Rattle.depth_certifier.specs.Certificate.{loops, after, Allows, Leads, Decides, Head, SameShape, without_loop, dropped, EndsBody, ExitHas, Fits, BodyFits}
+use Rattle.depth_certifier.specs.Certificate.{loops, after, Allows, Leads, Decides, Head, SameShape, CountedFits, without_loop, dropped, EndsBody, ExitHas, Fits, BodyFits}
 use Rattle.forth_program.specs.Heights.{address_height, entries_height, callers_height, end_peak, text_peak, text_back, peak_of, back_of, execute_back, DepthFits}
 use Rattle.depth_certifier.specs.Soundness.{end_height}
-use Rattle.depth_certifier.proofs.SourcePlaces.{shape_of, Inside, Stood, LeavesWithin, OnLoop, below_same}
+use Rattle.depth_certifier.proofs.SourcePlaces.{shape_of, Inside, Stood, LeavesWithin, OnLoop}
 use Rattle.depth_certifier.proofs.Words.{changes, owed, type_sound}
-use Rattle.depth_certifier.proofs.Work.{Matches, open_matches, closed_matches, DoTurns, head_above, LeavesLoop, leaves_loop, WorkLeads, from_more, enter, closed}
+use Rattle.depth_certifier.proofs.Work.{Matches, open_matches, closed_matches, DoTurns, head_above, LeavesLoop, leaves_loop, WorkLeads, from_more, at_once, of_item, enter, closed}
 use Rattle.depth_certifier.proofs.Frames.{Bounds, Returns, returns_of, CallersFit, KeepsFrames, Onward, holds, Reaches, kept_onward}
 use Rattle.depth_certifier.proofs.Steps as steps
 
@@ -70,7 +70,7 @@ module _ (p : SourceProgram) (known : Known) (heads : List (ℤ × ℤ)) (main :
       Stood base place c es → length c ≤ most → entries_height es ≤ e.back → From at_zero on_false l → From other on_true l →
       Onward known heads main most return_most (on_flag c at_zero other (here w es c))
   flag_onward at_zero other w es c Unreachable on_true on_false l d st few room f g = absurd st
-  flag_onward at_zero other w es [] (At q) on_true on_false l d st few room f g = absurd (let n = need (table_effect table.If) q d.0.0 es [] d.0.2 st in omega (arith, n))
+  flag_onward at_zero other w es [] (At q) on_true on_false l d st few room f g = absurd (let n = need (table_effect table.If) q d.0.shape es [] d.0.allows st in omega (arith, n))
   flag_onward at_zero other w es (zero ∷ c) (At q) on_true on_false l d st few room f g =
       let r = reach (table_effect table.If) keep q on_true (suc (length c)) es es c d.0 st (changes 1 0 (suc (length c)) (length c) (omega arith)) refl in
       on at_zero es c on_false l f (subst (λ z. Stood base z c es) (sym d.1) r.stood) (omega (arith, few)) room
@@ -93,46 +93,44 @@ module _ (p : SourceProgram) (known : Known) (heads : List (ℤ × ℤ)) (main :
       WorkLeads known heads e (Todo (If first second) ∷ work) place l → Stood base place c es → length c ≤ most → entries_height es ≤ e.back →
       Step (IsIf first second work) w es c
   if_moves first second work w es c place l f st few room =
-      let i = f.4 in
-      let on_end : From work f.3 l = (f.5, f.6, f.7) in
+      let i = f.item in
       quiet (IsIf first second work) w es c refl refl tt refl few room
-      (flag_onward (before second work) (before first (closed_by second work)) w es c place i.0 i.1 l i.2 st few room
-      (enter known heads e (branch_next f.0) second (f.2 + loops first) i.1 l f.3 work i.4 (open_matches f.0 work f.1) on_end)
-      (enter known heads e (branch_next f.0) first f.2 i.0 l f.3 (closed_by second work) i.3 (closed_matches f.0 second work f.1) (closed known heads e second work f.3 l on_end)))
+      (flag_onward (before second work) (before first (closed_by second work)) w es c place i.on_true i.on_false l i.decides st few room
+      (enter known heads e (branch_next f.next) second (f.k + loops first) i.on_false l f.place work i.second (open_matches f.next work f.matches) f.rest)
+      (enter known heads e (branch_next f.next) first f.k i.on_true l f.place (closed_by second work) i.first (closed_matches f.next second work f.matches) (closed known heads e second work f.place l f.rest)))
 
   pub true_end_moves : (work w : List Work) (es : List Entry) (c : List ℕ) (place l : Place) → WorkLeads known heads e work place l → Stood base place c es → length c ≤ most → entries_height es ≤ e.back → Step (IsTrueEnd work) w es c
-  true_end_moves work w es c place l f st few room = quiet (IsTrueEnd work) w es c refl refl tt refl few room (on work es c place l (place, below_same place, f) st few room)
+  true_end_moves work w es c place l f st few room = quiet (IsTrueEnd work) w es c refl refl tt refl few room (on work es c place l (at_once known heads e work place l f) st few room)
 
   pub until_moves : (body : Nodes) (work w : List Work) (es : List Entry) (c : List ℕ) (place l : Place) →
       WorkLeads known heads e (UntilTest body ∷ work) place l → Stood base place c es → length c ≤ most → entries_height es ≤ e.back →
       Step (IsUntil body work) w es c
   until_moves body work w es c place l f st few room =
-      let u = f.2 in
+      let u = f.0 in
       quiet (IsUntil body work) w es c refl refl tt refl few room
-      (flag_onward (before body (UntilTest body ∷ work)) work w es c place f.1 f.1 l (one_way place f.1 u.test) st few room
-      (from_more known heads e (before body (UntilTest body ∷ work)) f.1 f.0 l u.again (enter known heads e More body (u.k + 1) f.0 l place (UntilTest body ∷ work) u.items refl (place, below_same place, f)))
-      (f.3, f.4, f.5))
+      (flag_onward (before body (UntilTest body ∷ work)) work w es c place u.after u.after l (one_way place u.after u.test) st few room
+      (from_more known heads e (before body (UntilTest body ∷ work)) u.after u.head l u.again
+      (enter known heads e More body (u.k + 1) u.head l place (UntilTest body ∷ work) u.items refl (at_once known heads e (UntilTest body ∷ work) place l f)))
+      f.1)
 
   pub while_moves : (test body : Nodes) (work w : List Work) (es : List Entry) (c : List ℕ) (place l : Place) →
       WorkLeads known heads e (WhileTest test body ∷ work) place l → Stood base place c es → length c ≤ most → entries_height es ≤ e.back →
       Step (IsWhile test body work) w es c
   while_moves test body work w es c place l f st few room =
-      let u = f.4 in
+      let u = f.1 in
       quiet (IsWhile test body work) w es c refl refl tt refl few room
-      (flag_onward work (before body (Repeat test body ∷ work)) w es c place f.1 f.3 l u.decides st few room
-      (f.5, f.6, f.7)
-      (enter known heads e More body (u.k + 1 + loops test) f.1 l f.2 (Repeat test body ∷ work) u.items refl (f.2, below_same f.2, (f.0, place, f.1, f.3, u, f.5, f.6, f.7))))
+      (flag_onward work (before body (Repeat test body ∷ work)) w es c place u.on_true u.after l u.decides st few room f.2
+      (enter known heads e More body (u.k + 1 + loops test) u.on_true l f.0 (Repeat test body ∷ work) u.items refl (at_once known heads e (Repeat test body ∷ work) f.0 l (place, u, f.2))))
 
   pub repeat_moves : (test body : Nodes) (work w : List Work) (es : List Entry) (c : List ℕ) (place l : Place) →
       WorkLeads known heads e (Repeat test body ∷ work) place l → Stood base place c es → length c ≤ most → entries_height es ≤ e.back →
       Step (IsRepeat test body work) w es c
   repeat_moves test body work w es c place l f st few room =
-      let u = f.4 in
+      let u = f.1 in
       quiet (IsRepeat test body work) w es c refl refl tt refl few room
       (on (before test (WhileTest test body ∷ work)) es c place l
-      (from_more known heads e (before test (WhileTest test body ∷ work)) place f.0 l u.again
-      (enter known heads e Flag test (u.k + 1) f.0 l f.1 (WhileTest test body ∷ work) u.test_items refl
-      (f.1, below_same f.1, (f.0, f.2, place, f.3, u, f.5, f.6, f.7))))
+      (from_more known heads e (before test (WhileTest test body ∷ work)) place u.head l u.again
+      (enter known heads e Flag test (u.k + 1) u.head l f.0 (WhileTest test body ∷ work) u.test_items refl (at_once known heads e (WhileTest test body ∷ work) f.0 l (place, u, f.2))))
       st few room)
 
   -- ---- loops
@@ -152,25 +150,37 @@ module _ (p : SourceProgram) (known : Known) (heads : List (ℤ × ℤ)) (main :
   module _ (x : Effect) (takes_two : x.exit ≡ Some (negsuc 1, negsuc 1)) where
     begins_at : (q : Stand) (i : Place) → Leads e x push_loop (At q) i → i ≡ At (record { low = q.low +ℤ negsuc 1; high = q.high +ℤ negsuc 1; shape = OfLoop ∷ q.shape })
     begins_at q i leads =
-        let push : leads.0 ≡ OfLoop ∷ q.shape = (let s = leads.1 in cc (s)) in
-        leads.3 ∙ ap (λ y. after y q leads.0) takes_two ∙ ap (after (Some (negsuc 1, negsuc 1)) q) push
+        let push : leads.shape ≡ OfLoop ∷ q.shape = (let s = leads.changes in cc (s)) in
+        leads.place ∙ ap (λ y. after y q leads.shape) takes_two ∙ ap (after (Some (negsuc 1, negsuc 1)) q) push
 
     head_at : (q : Stand) (i h : Place) → Leads e x push_loop (At q) i → (k : ℕ) → Head heads k i h → (r : Stand) × (h ≡ At r) × (r.shape ≡ OfLoop ∷ q.shape)
     head_at q i h leads k head =
         let head' = subst (λ z. Head heads k z h) (begins_at q i leads) head in
-        (head'.0, head'.1, sym head'.2.same)
+        (head'.stand, head'.place, sym head'.inside.same)
 
     end_on_loop : (h l : Place) → SameShape h l → (q r : Stand) → h ≡ At r → r.shape ≡ OfLoop ∷ q.shape → OnLoop l
     end_on_loop h Unreachable same q r is on = tt
     end_on_loop h (Doubled o) same q r is on = tt
     end_on_loop h (At o) same q r is on = let same' : r.shape ≡ o.shape = subst (λ z. SameShape z (At o)) is same in (q.shape, sym same' ∙ on)
 
-    loop_turns : (body : Nodes) (plus : Bool) (q : Stand) (k : ℕ) (i h l m n : Place) → Leads e x push_loop (At q) i → Head heads k i h → SameShape h l →
-        Fits known heads e More body (k + 1) h l m → Leads e (table_effect (turn_word plus)) keep m n →
-        Below n h → Below n l → DoTurns known heads e body plus l h m n
-    loop_turns body plus q k i h l m n leads head same items turn again out =
-        let at = head_at q i h leads k head in
-        record { k = k; head_on_loop = subst OnLoop (sym at.1) (q.shape, at.2); end_on_loop = end_on_loop h l same q at.0 at.1 at.2; items = items; turn = turn; again = again; out = out }
+    -- a counted loop that x begins
+    abbrev Counted : Nodes → Bool → Stand → ℕ → Place → Type 0
+    Counted body plus q k t = CountedFits heads e x plus k (λ h l m. Fits known heads e More body (k + 1) h l m) (At q) t
+
+    loop_turns : (body : Nodes) (plus : Bool) (q : Stand) (k : ℕ) (t : Place) (g : Counted body plus q k t) → DoTurns known heads e body plus g.out g.turn
+    loop_turns body plus q k t g =
+        let at = head_at q g.start g.head g.begins k g.enters in
+        record {
+          k = k;
+          head = g.head;
+          next = g.next;
+          head_on_loop = subst OnLoop (sym at.1) (q.shape, at.2);
+          end_on_loop = end_on_loop g.head g.out g.same q at.0 at.1 at.2;
+          items = g.items;
+          turn = g.turns;
+          again = g.again;
+          out = g.leaves;
+        }
 
     -- the cells after it, with the loop on the return entries
     begun_at : (q : Stand) (i : Place) (start limit : ℕ) (es : List Entry) (c : List ℕ) → Leads e x push_loop (At q) i → Inside base q (suc (suc (length c))) es →
@@ -178,35 +188,34 @@ module _ (p : SourceProgram) (known : Known) (heads : List (ℤ × ℤ)) (main :
     begun_at q i start limit es c leads st =
         reach x push_loop q i (suc (suc (length c))) es (Loop limit start ∷ es) c leads st (subst (λ y. LeavesWithin y (suc (suc (length c))) (length c)) (sym takes_two) (changes 2 0 (suc (suc (length c))) (length c) (omega arith))) refl
 
-    loop_onward : (body : Nodes) (plus : Bool) (work : List Work) (es : List Entry) (c : List ℕ) (start limit : ℕ) (q : Stand) (k : ℕ)
-        (i h l m n outer : Place) → Leads e x push_loop (At q) i → Head heads k i h → DoTurns known heads e body plus l h m n →
-        Fits known heads e More body (k + 1) h l m → From work (dropped l) outer → Inside base q (suc (suc (length c))) es → suc (suc (length c)) ≤ most →
+    loop_onward : (body : Nodes) (plus : Bool) (work : List Work) (es : List Entry) (c : List ℕ) (start limit : ℕ) (q : Stand) (k : ℕ) (t outer : Place)
+        (g : Counted body plus q k t) → From work (dropped g.out) outer → Inside base q (suc (suc (length c))) es → suc (suc (length c)) ≤ most →
         KeepsFrames known heads main most return_most (here (before body (Turn body plus ∷ work)) (Loop limit start ∷ es) c)
-    loop_onward body plus work es c start limit q k i h l m n outer leads head turns items out st few =
-        let r = begun_at q i start limit es c leads st in
-        on (before body (Turn body plus ∷ work)) (Loop limit start ∷ es) c i l
-        (from_more known heads e (before body (Turn body plus ∷ work)) i h l (head_above known heads e k i h head)
-        (enter known heads e More body (k + 1) h l m (Turn body plus ∷ work) items refl (m, below_same m, (h, n, turns, outer, out.0, out.1, out.2))))
+    loop_onward body plus work es c start limit q k t outer g out st few =
+        let r = begun_at q g.start start limit es c g.begins st in
+        on (before body (Turn body plus ∷ work)) (Loop limit start ∷ es) c g.start g.out
+        (from_more known heads e (before body (Turn body plus ∷ work)) g.start g.head g.out (head_above known heads e k g.start g.head g.enters)
+        (enter known heads e More body (k + 1) g.head g.out g.turn (Turn body plus ∷ work) g.items refl
+        (at_once known heads e (Turn body plus ∷ work) g.turn g.out (loop_turns body plus q k t g, outer, out))))
         r.stood (omega (arith, few)) r.room
 
   pub do_moves : (body : Nodes) (plus : Bool) (work w : List Work) (es : List Entry) (c : List ℕ) (place l : Place) →
       WorkLeads known heads e (Todo (Do body plus) ∷ work) place l → Stood base place c es → length c ≤ most → entries_height es ≤ e.back →
       Step (IsDo body plus work) w es c
   do_moves body plus work w es c Unreachable l f st few room = absurd st
-  do_moves body plus work w es c (Doubled q) l f st few room = absurd f.4.1
-  do_moves body plus work w es [] (At q) l f st few room = absurd (let n = need (table_effect table.Do) q f.4.1.0 es [] f.4.1.2 st in omega (arith, n))
-  do_moves body plus work w es (x ∷ []) (At q) l f st few room = absurd (let n = need (table_effect table.Do) q f.4.1.0 es (x ∷ []) f.4.1.2 st in omega (arith, n))
+  do_moves body plus work w es c (Doubled q) l f st few room = absurd f.item.begins
+  do_moves body plus work w es [] (At q) l f st few room = absurd (let n = need (table_effect table.Do) q f.item.begins.shape es [] f.item.begins.allows st in omega (arith, n))
+  do_moves body plus work w es (x ∷ []) (At q) l f st few room = absurd (let n = need (table_effect table.Do) q f.item.begins.shape es (x ∷ []) f.item.begins.allows st in omega (arith, n))
   do_moves body plus work w es (start ∷ limit ∷ c) (At q) l f st few room =
-      let g = f.4 in
-      let turns = loop_turns (table_effect table.Do) refl body plus q f.2 g.0 g.2 g.4 g.6 g.8 g.1 g.3 g.5 g.7 g.9 g.10 g.11 in
-      let pk = peak (table_effect table.Do) q g.1.0 es (start ∷ limit ∷ c) g.1.2 st in
-      let r = begun_at (table_effect table.Do) refl q g.0 start limit es c g.1 st in
+      let g = f.item in
+      let pk = peak (table_effect table.Do) q g.begins.shape es (start ∷ limit ∷ c) g.begins.allows st in
+      let r = begun_at (table_effect table.Do) refl q g.start start limit es c g.begins st in
       record {
         data_cells = omega (arith, pk, lower);
         return_cells = (let s = r.room in omega (arith, s, bounds.back));
         depth = tt;
         executes = omega (arith, room, bounds.back);
-        onward = loop_onward (table_effect table.Do) refl body plus work es c start limit q f.2 g.0 g.2 g.4 g.6 g.8 l g.1 g.3 turns g.7 (f.5, subst (λ z. Below z f.5) g.12 f.6, f.7) st few;
+        onward = loop_onward (table_effect table.Do) refl body plus work es c start limit q f.k f.place l g (subst (λ z. From work z l) g.after_loop f.rest) st few;
       }
 
   either : (b : Bool) (s t : State) → KeepsFrames known heads main most return_most s → KeepsFrames known heads main most return_most t → Onward known heads main most return_most (if b then Goes s else Goes t)
@@ -225,37 +234,37 @@ module _ (p : SourceProgram) (known : Known) (heads : List (ℤ × ℤ)) (main :
       WorkLeads known heads e (Todo (QDo body plus) ∷ work) place l → Stood base place c es → length c ≤ most → entries_height es ≤ e.back →
       Step (IsQDo body plus work) w es c
   query_do_moves body plus work w es c Unreachable l f st few room = absurd st
-  query_do_moves body plus work w es c (Doubled q) l f st few room = absurd f.4.1
-  query_do_moves body plus work w es [] (At q) l f st few room = absurd (let n = need (table_effect table.QDo) q f.4.1.0 es [] f.4.1.2 st in omega (arith, n))
-  query_do_moves body plus work w es (x ∷ []) (At q) l f st few room = absurd (let n = need (table_effect table.QDo) q f.4.1.0 es (x ∷ []) f.4.1.2 st in omega (arith, n))
+  query_do_moves body plus work w es c (Doubled q) l f st few room = absurd f.item.0.begins
+  query_do_moves body plus work w es [] (At q) l f st few room = absurd (let n = need (table_effect table.QDo) q f.item.0.begins.shape es [] f.item.0.begins.allows st in omega (arith, n))
+  query_do_moves body plus work w es (x ∷ []) (At q) l f st few room = absurd (let n = need (table_effect table.QDo) q f.item.0.begins.shape es (x ∷ []) f.item.0.begins.allows st in omega (arith, n))
   query_do_moves body plus work w es (start ∷ limit ∷ c) (At q) l f st few room =
-      let g = f.4 in
-      let i = g.0 in
-      let x = g.4 in
-      let turns = loop_turns (table_effect table.QDo) refl body plus q f.2 i g.2 x g.6 g.8 g.1 g.3 g.5 g.7 g.9 g.10 g.11 in
-      let pk = peak (table_effect table.QDo) q g.1.0 es (start ∷ limit ∷ c) g.1.2 st in
-      let r = begun_at (table_effect table.QDo) refl q i start limit es c g.1 st in
-      let is = begins_at (table_effect table.QDo) refl q i g.1 in
-      let out : From work (dropped x) l = (f.5, subst (λ z. Below z f.5) g.13 f.6, f.7) in
+      let g = f.item.0 in
+      let i = g.start in
+      let x = g.out in
+      let pk = peak (table_effect table.QDo) q g.begins.shape es (start ∷ limit ∷ c) g.begins.allows st in
+      let r = begun_at (table_effect table.QDo) refl q i start limit es c g.begins st in
+      let is = begins_at (table_effect table.QDo) refl q i g.begins in
+      let out : From work (dropped x) l = subst (λ z. From work z l) g.after_loop f.rest in
       record {
         data_cells = omega (arith, pk, lower);
         return_cells = (let s = r.room in omega (arith, s, bounds.back));
         depth = tt;
         executes = omega (arith, room, bounds.back);
         onward = either (limit == start) (here work es c) (here (before body (Turn body plus ∷ work)) (Loop limit start ∷ es) c)
-            (on work es c (dropped i) l (from_more known heads e work (dropped i) (dropped x) l (dropped_below i x g.12) out)
+            (on work es c (dropped i) l (from_more known heads e work (dropped i) (dropped x) l (dropped_below i x f.item.1) out)
             (drop_loop i limit start es c (subst OnLoop (sym is) (q.shape, refl)) r.stood (record { low = q.low +ℤ negsuc 1; high = q.high +ℤ negsuc 1; shape = OfLoop ∷ q.shape }) is) (omega (arith, few)) room)
-            (loop_onward (table_effect table.QDo) refl body plus work es c start limit q f.2 i g.2 x g.6 g.8 l g.1 g.3 turns g.7 out st few);
+            (loop_onward (table_effect table.QDo) refl body plus work es c start limit q f.k f.place l g out st few);
       }
 
   pub again_moves : (body : Nodes) (work w : List Work) (es : List Entry) (c : List ℕ) (place l : Place) →
       WorkLeads known heads e (BeginAgain body ∷ work) place l → Stood base place c es → length c ≤ most → entries_height es ≤ e.back →
       Step (IsAgain body work) w es c
   again_moves body work w es c place l f st few room =
-      let u = f.1 in
+      let u = f.0 in
       quiet (IsAgain body work) w es c refl refl tt refl few room
       (on (before body (BeginAgain body ∷ work)) es c place l
-      (from_more known heads e (before body (BeginAgain body ∷ work)) place f.0 l u.again (enter known heads e More body (u.k + 1) f.0 l place (BeginAgain body ∷ work) u.items refl (place, below_same place, f)))
+      (from_more known heads e (before body (BeginAgain body ∷ work)) place u.head l u.again
+      (enter known heads e More body (u.k + 1) u.head l place (BeginAgain body ∷ work) u.items refl (at_once known heads e (BeginAgain body ∷ work) place l f)))
       st few room)
 
   -- ---- cases
@@ -264,12 +273,12 @@ module _ (p : SourceProgram) (known : Known) (heads : List (ℤ × ℤ)) (main :
       WorkLeads known heads e (OfTest body others rest ∷ work) place l → Stood base place c es → length c ≤ most → entries_height es ≤ e.back →
       Step (IsOf body others rest work) w es c
   of_moves body others rest work w es c Unreachable l f st few room = absurd st
-  of_moves body others rest work w es c (Doubled q) l f st few room = absurd f.3.to_other
-  of_moves body others rest work w es [] (At q) l f st few room = absurd (let n = need (of_effect (negsuc 1)) q f.3.to_equal.0 es [] f.3.to_equal.2 st in omega (arith, n))
-  of_moves body others rest work w es (x ∷ []) (At q) l f st few room = absurd (let n = need (of_effect (negsuc 1)) q f.3.to_equal.0 es (x ∷ []) f.3.to_equal.2 st in omega (arith, n))
+  of_moves body others rest work w es c (Doubled q) l f st few room = absurd f.0.to_other
+  of_moves body others rest work w es [] (At q) l f st few room = absurd (let n = need (of_effect (negsuc 1)) q f.0.to_equal.shape es [] f.0.to_equal.allows st in omega (arith, n))
+  of_moves body others rest work w es (x ∷ []) (At q) l f st few room = absurd (let n = need (of_effect (negsuc 1)) q f.0.to_equal.shape es (x ∷ []) f.0.to_equal.allows st in omega (arith, n))
   of_moves body others rest work w es (x ∷ y ∷ c) (At q) l f st few room =
-      let g = f.3 in
-      let pk = peak (of_effect (negsuc 1)) q g.to_equal.0 es (x ∷ y ∷ c) g.to_equal.2 st in
+      let g = f.0 in
+      let pk = peak (of_effect (negsuc 1)) q g.to_equal.shape es (x ∷ y ∷ c) g.to_equal.allows st in
       let r = reach (of_effect (negsuc 1)) keep q g.on_equal (suc (suc (length c))) es es c g.to_equal st (changes 2 0 (suc (suc (length c))) (length c) (omega arith)) refl in
       let o = reach (of_effect (negsuc 0)) keep q g.on_other (suc (suc (length c))) es es (y ∷ c) g.to_other st (changes 1 0 (suc (suc (length c))) (suc (length c)) (omega arith)) refl in
       record {
@@ -278,21 +287,22 @@ module _ (p : SourceProgram) (known : Known) (heads : List (ℤ × ℤ)) (main :
         depth = tt;
         executes = omega (arith, room, bounds.back);
         onward = either (x == y) (here (before body (EndOf ∷ work)) es c) (here (Todo (Case others rest) ∷ work) es (y ∷ c))
-            (on (before body (EndOf ∷ work)) es c g.on_equal l (enter known heads e (branch_next f.0) body g.k g.on_equal l f.2 (EndOf ∷ work) g.items (open_matches f.0 work f.1) (f.4, f.5, f.6)) r.stood (omega (arith, few)) room)
-            (on (Todo (Case others rest) ∷ work) es (y ∷ c) g.on_other l (g.on_other, below_same g.on_other, (f.0, f.1, g.k', f.2, g.left, f.4, f.5, f.6)) o.stood (omega (arith, few)) room);
+            (on (before body (EndOf ∷ work)) es c g.on_equal l (enter known heads e (branch_next g.next) body g.k g.on_equal l g.place (EndOf ∷ work) g.items (open_matches g.next work g.matches) f.1) r.stood (omega (arith, few)) room)
+            (on (Todo (Case others rest) ∷ work) es (y ∷ c) g.on_other l (at_once known heads e (Todo (Case others rest) ∷ work) g.on_other l
+            (of_item known heads e g.next (Case others rest) g.k' g.on_other l g.place work g.left g.matches f.1)) o.stood (omega (arith, few)) room);
       }
 
   pub end_of_moves : (work w : List Work) (es : List Entry) (c : List ℕ) (place l : Place) → WorkLeads known heads e work place l → Stood base place c es → length c ≤ most → entries_height es ≤ e.back → Step (IsEndOf work) w es c
-  end_of_moves work w es c place l f st few room = quiet (IsEndOf work) w es c refl refl tt refl few room (on work es c place l (place, below_same place, f) st few room)
+  end_of_moves work w es c place l f st few room = quiet (IsEndOf work) w es c refl refl tt refl few room (on work es c place l (at_once known heads e work place l f) st few room)
 
   pub end_case_moves : (work w : List Work) (es : List Entry) (c : List ℕ) (place l : Place) → WorkLeads known heads e (EndCase ∷ work) place l →
       Stood base place c es → length c ≤ most → entries_height es ≤ e.back → Step (IsEndCase work) w es c
   end_case_moves work w es c Unreachable l f st few room = absurd st
   end_case_moves work w es c (Doubled q) l f st few room = absurd f.1
-  end_case_moves work w es [] (At q) l f st few room = absurd (let n = need (table_effect table.EndCase) q f.1.0 es [] f.1.2 st in omega (arith, n))
+  end_case_moves work w es [] (At q) l f st few room = absurd (let n = need (table_effect table.EndCase) q f.1.shape es [] f.1.allows st in omega (arith, n))
   end_case_moves work w es (x ∷ c) (At q) l f st few room =
       let r = reach (table_effect table.EndCase) keep q f.0 (suc (length c)) es es c f.1 st (changes 1 0 (suc (length c)) (length c) (omega arith)) refl in
-      quiet (IsEndCase work) w es (x ∷ c) refl refl tt refl few room (on work es c f.0 l (f.2, f.3, f.4) r.stood (omega (arith, few)) room)
+      quiet (IsEndCase work) w es (x ∷ c) refl refl tt refl few room (on work es c f.0 l f.2 r.stood (omega (arith, few)) room)
 
   -- the end of a turn: out of the loop, or again
   turned_onward : (body : Nodes) (plus : Bool) (step : ℕ) (work w : List Work) (es : List Entry) (c : List ℕ) (n : Stand) (h l outer : Place) → Below (At n) h →
@@ -315,37 +325,37 @@ module _ (p : SourceProgram) (known : Known) (heads : List (ℤ × ℤ)) (main :
       WorkLeads known heads e (Turn body plus ∷ work) place l → Stood base place c es → length c ≤ most → entries_height es ≤ e.back →
       Step (IsTurn body plus work) w es c
   turn_moves body plus work w es c Unreachable l f st few room = absurd st
-  turn_moves body plus work w es c (Doubled q) l f st few room = absurd f.2.turn
+  turn_moves body plus work w es c (Doubled q) l f st few room = absurd f.0.turn
   turn_moves body false work w es c (At q) l f st few room =
-      let turns = f.2 in
+      let turns = f.0 in
       let leads = turns.turn in
-      let r = reach (table_effect table.Loop) keep q f.1 (length c) es es c leads st (changes 0 0 (length c) (length c) (omega arith)) refl in
-      let n : Stand = record { low = q.low +ℤ pos 0; high = q.high +ℤ pos 0; shape = leads.0 } in
-      let pk = peak (table_effect table.Loop) q leads.0 es c leads.2 st in
+      let r = reach (table_effect table.Loop) keep q turns.next (length c) es es c leads st (changes 0 0 (length c) (length c) (omega arith)) refl in
+      let n : Stand = record { low = q.low +ℤ pos 0; high = q.high +ℤ pos 0; shape = leads.shape } in
+      let pk = peak (table_effect table.Loop) q leads.shape es c leads.allows st in
       record {
         data_cells = omega (arith, pk, lower);
         return_cells = omega (arith, room, bounds.back);
         depth = tt;
         executes = omega (arith, room, bounds.back);
-        onward = turned_onward body false 1 work w es c n f.0 l f.3 (subst (λ z. Below z f.0) leads.3 turns.again) (subst (λ z. Below z l) leads.3 turns.out) turns.head_on_loop turns.end_on_loop
-            (enter known heads e More body (turns.k + 1) f.0 l (At q) (Turn body false ∷ work) turns.items refl (At q, below_same (At q), f))
-            (f.4, f.5, f.6) (subst (λ z. Stood base z c es) leads.3 r.stood) few room;
+        onward = turned_onward body false 1 work w es c n turns.head l f.1 (subst (λ z. Below z turns.head) leads.place turns.again) (subst (λ z. Below z l) leads.place turns.out) turns.head_on_loop turns.end_on_loop
+            (enter known heads e More body (turns.k + 1) turns.head l (At q) (Turn body false ∷ work) turns.items refl (at_once known heads e (Turn body false ∷ work) (At q) l f))
+            f.2 (subst (λ z. Stood base z c es) leads.place r.stood) few room;
       }
-  turn_moves body true work w es [] (At q) l f st few room = absurd (let n = need (table_effect table.PlusLoop) q f.2.turn.0 es [] f.2.turn.2 st in omega (arith, n))
+  turn_moves body true work w es [] (At q) l f st few room = absurd (let n = need (table_effect table.PlusLoop) q f.0.turn.shape es [] f.0.turn.allows st in omega (arith, n))
   turn_moves body true work w es (step ∷ c) (At q) l f st few room =
-      let turns = f.2 in
+      let turns = f.0 in
       let leads = turns.turn in
-      let r = reach (table_effect table.PlusLoop) keep q f.1 (suc (length c)) es es c leads st (changes 1 0 (suc (length c)) (length c) (omega arith)) refl in
-      let n : Stand = record { low = q.low +ℤ negsuc 0; high = q.high +ℤ negsuc 0; shape = leads.0 } in
-      let pk = peak (table_effect table.PlusLoop) q leads.0 es (step ∷ c) leads.2 st in
+      let r = reach (table_effect table.PlusLoop) keep q turns.next (suc (length c)) es es c leads st (changes 1 0 (suc (length c)) (length c) (omega arith)) refl in
+      let n : Stand = record { low = q.low +ℤ negsuc 0; high = q.high +ℤ negsuc 0; shape = leads.shape } in
+      let pk = peak (table_effect table.PlusLoop) q leads.shape es (step ∷ c) leads.allows st in
       record {
         data_cells = omega (arith, pk, lower);
         return_cells = omega (arith, room, bounds.back);
         depth = tt;
         executes = omega (arith, room, bounds.back);
-        onward = turned_onward body true step work w es c n f.0 l f.3 (subst (λ z. Below z f.0) leads.3 turns.again) (subst (λ z. Below z l) leads.3 turns.out) turns.head_on_loop turns.end_on_loop
-            (enter known heads e More body (turns.k + 1) f.0 l (At q) (Turn body true ∷ work) turns.items refl (At q, below_same (At q), f))
-            (f.4, f.5, f.6) (subst (λ z. Stood base z c es) leads.3 r.stood) (omega (arith, few)) room;
+        onward = turned_onward body true step work w es c n turns.head l f.1 (subst (λ z. Below z turns.head) leads.place turns.again) (subst (λ z. Below z l) leads.place turns.out) turns.head_on_loop turns.end_on_loop
+            (enter known heads e More body (turns.k + 1) turns.head l (At q) (Turn body true ∷ work) turns.items refl (at_once known heads e (Turn body true ∷ work) (At q) l f))
+            f.2 (subst (λ z. Stood base z c es) leads.place r.stood) (omega (arith, few)) room;
       }
 
   leave_onward : (work w : List Work) (es : List Entry) (c : List ℕ) (n : Stand) (l s : Place) → Below (At n) l → WorkLeads known heads e work s l → Inside base n (length c) es → length c ≤ most → entries_height es ≤ e.back →
@@ -358,7 +368,7 @@ module _ (p : SourceProgram) (known : Known) (heads : List (ℤ × ℤ)) (main :
       by_entries [] out st room = (let i : [] ≡ OfLoop ∷ out.on_loop.0 = st.same ∙ b.same ∙ out.on_loop.1 in cc (i))
       by_entries (Cell value ∷ es) out st room = (let i : OfCell ∷ shape_of es ≡ OfLoop ∷ out.on_loop.0 = st.same ∙ b.same ∙ out.on_loop.1 in cc (i))
       by_entries (Loop limit index ∷ es) out st room =
-          on (after_loop work) es c (dropped (At l)) out.outer (out.place, out.below, out.leads)
+          on (after_loop work) es c (dropped (At l)) out.outer (record { place = out.place; below = out.below; leads = out.leads })
           (drop_loop (At l) limit index es c out.on_loop
           (record {
             low = (let x = b.low in omega (arith, ints, x, st.low));
@@ -369,19 +379,19 @@ module _ (p : SourceProgram) (known : Known) (heads : List (ℤ × ℤ)) (main :
   pub leave_moves : (work w : List Work) (es : List Entry) (c : List ℕ) (place l : Place) → WorkLeads known heads e (Todo Leave ∷ work) place l →
       Stood base place c es → length c ≤ most → entries_height es ≤ e.back → Step (IsLeave work) w es c
   leave_moves work w es c Unreachable l f st few room = absurd st
-  leave_moves work w es c (Doubled q) l f st few room = absurd f.4.1
+  leave_moves work w es c (Doubled q) l f st few room = absurd f.item.1
   leave_moves work w es c (At q) l f st few room =
-      let g = f.4 in
+      let g = f.item in
       let leads = g.1 in
       let r = reach (table_effect table.Leave) keep q g.0 (length c) es es c leads st (changes 0 0 (length c) (length c) (omega arith)) refl in
-      let n : Stand = record { low = q.low +ℤ pos 0; high = q.high +ℤ pos 0; shape = leads.0 } in
-      let pk = peak (table_effect table.Leave) q leads.0 es c leads.2 st in
+      let n : Stand = record { low = q.low +ℤ pos 0; high = q.high +ℤ pos 0; shape = leads.shape } in
+      let pk = peak (table_effect table.Leave) q leads.shape es c leads.allows st in
       record {
         data_cells = omega (arith, pk, lower);
         return_cells = omega (arith, room, bounds.back);
         depth = tt;
         executes = omega (arith, room, bounds.back);
-        onward = leave_onward work w es c n l f.5 (subst (λ z. Below z l) leads.3 g.2) f.7 (subst (λ z. Stood base z c es) leads.3 r.stood) few room;
+        onward = leave_onward work w es c n l f.rest.place (subst (λ z. Below z l) leads.place g.2) f.rest.leads (subst (λ z. Stood base z c es) leads.place r.stood) few room;
       }
 
   -- ---- the end of a body
@@ -389,7 +399,7 @@ module _ (p : SourceProgram) (known : Known) (heads : List (ℤ × ℤ)) (main :
   returned : (exit : Option (ℤ × ℤ)) (q : Stand) (c : List ℕ) (es : List Entry) (t : Place) (base' : ℕ) (entries : List Entry) → ExitHas exit q → Inside base q (length c) es → Returns exit base t base' entries → Stood base' t c entries
   returned None q c es t base' entries h st r = absurd h
   returned (Some exit) q c es t base' entries h st r =
-      subst (λ z. Stood base' z c entries) (sym r.1) (record { low = (let x = r.2 in omega (arith, ints, x, h.0, st.low)); high = (let x = r.3 in omega (arith, ints, x, h.1, st.high)); same = r.4 })
+      subst (λ z. Stood base' z c entries) (sym r.place) (record { low = (let x = r.low in omega (arith, ints, x, h.0, st.low)); high = (let x = r.high in omega (arith, ints, x, h.1, st.high)); same = r.same })
 
   main_end : (exit : Option (ℤ × ℤ)) (q : Stand) (n : ℕ) → ExitHas exit q → end_height exit ≤ high → pos n ≤ℤ q.high → n + 2 ≤ high
   main_end None q n h top st = absurd h
@@ -452,8 +462,8 @@ module _ (p : SourceProgram) (known : Known) (heads : List (ℤ × ℤ)) (main :
   text_moves kind address size' work w es c Unreachable t l leads st few room f = absurd st
   text_moves kind address size' work w es c (Doubled q) t l leads st few room f = absurd leads
   text_moves kind address size' work w es c (At q) t l leads st few room f =
-      let pk = peak (table_effect (text_word kind)) q leads.0 es c leads.2 st in
-      let bk = back (table_effect (text_word kind)) q leads.0 es c leads.2 st in
+      let pk = peak (table_effect (text_word kind)) q leads.shape es c leads.allows st in
+      let bk = back (table_effect (text_word kind)) q leads.shape es c leads.allows st in
       record { data_cells = omega (arith, pk, lower, text_peak_is kind); return_cells = omega (arith, bk, text_back_is kind); depth = tt; executes = omega (arith, bk); onward = by kind c leads st few pk }
     where
       text_peak_is : (kind : TextKind) → text_peak kind ≡ (table_effect (text_word kind)).peak
@@ -477,7 +487,7 @@ module _ (p : SourceProgram) (known : Known) (heads : List (ℤ × ℤ)) (main :
           (λ c' w' h.
           let r = reach (table_effect table.DotQuote) keep q t (length c) es es c' leads st h refl in
           holds known heads main most return_most e base callers bounds below work es c' w' t l f r.stood (let i = h.1 in omega (arith, ints, few, i)) r.room)
-      by text.Abort [] leads st few pk = absurd (let n = need (table_effect table.AbortQuote) q leads.0 es [] leads.2 st in omega (arith, n))
+      by text.Abort [] leads st few pk = absurd (let n = need (table_effect table.AbortQuote) q leads.shape es [] leads.allows st in omega (arith, n))
       by text.Abort (zero ∷ c) leads st few pk =
           let r = reach (table_effect table.AbortQuote) keep q t (suc (length c)) es es c leads st (changes 1 0 (suc (length c)) (length c) (omega arith)) refl in
           on work es c t l f r.stood (omega (arith, few)) r.room
@@ -497,19 +507,19 @@ module _ (p : SourceProgram) (known : Known) (heads : List (ℤ × ℤ)) (main :
     call_onward d next work w es c q t l m leads st few room f =
         let x = effect_of known d in
         let y = called_effect next x in
-        let n1 = need y q leads.0 es c leads.2 st in
-        let n2 = peak y q leads.0 es c leads.2 st in
-        let n3 = back y q leads.0 es c leads.2 st in
-        let same : leads.0 ≡ q.shape = (let h = leads.1 in cc (h)) in
-        let is : t ≡ after x.exit q q.shape = subst (λ z. t ≡ after x.exit q z) same leads.3 in
+        let n1 = need y q leads.shape es c leads.allows st in
+        let n2 = peak y q leads.shape es c leads.allows st in
+        let n3 = back y q leads.shape es c leads.allows st in
+        let same : leads.shape ≡ q.shape = (let h = leads.changes in cc (h)) in
+        let is : t ≡ after x.exit q q.shape = subst (λ z. t ≡ after x.exit q z) same leads.place in
         let body = bodies d in
         let cells = ap address_height m in
         let lim = limits d in
         holds known heads main most return_most x (length c) (record { work = work; entries = es } ∷ callers)
         (record { need = n1; peak = n2; back = omega (arith, n3, cells); need_limit = lim.0; peak_limit = lim.1 })
-        (e, base, record { place = f.0; loop_end = l; returns = returns_of x.exit q t f.0 base (length c) es is f.1 st; leads = f.2; bounds = bounds; room = room }, below)
+        (e, base, record { place = f.place; loop_end = l; returns = returns_of x.exit q t f.place base (length c) es is f.below st; leads = f.leads; bounds = bounds; room = room }, below)
         (before (body_of p d) []) [] c world (At entry) Unreachable
-        (enter known heads x Return (body_of p d) body.0 (At entry) Unreachable body.1.0 [] body.1.1 refl (body.1.0, below_same body.1.0, (body.1.2, refl)))
+        (enter known heads x Return (body_of p d) body.0 (At entry) Unreachable body.1.0 [] body.1.1 refl (at_once known heads x [] body.1.0 Unreachable (body.1.2, refl)))
         (record { low = omega (arith, ints); high = omega (arith, ints); same = refl }) few (omega arith)
 
     pub call_moves : (d : ℕ) (next : Next) (work w : List Work) (es : List Entry) (c : List ℕ) (place t l : Place) → Matches next work →
@@ -526,13 +536,14 @@ module _ (p : SourceProgram) (known : Known) (heads : List (ℤ × ℤ)) (main :
     child_moves d a next work w es c Unreachable m t l ma literal leads st few room f = absurd st
     child_moves d a next work w es c (Doubled q) m t l ma literal leads st few room f = absurd literal
     child_moves d a next work w es c (At q) m t l ma literal leads st few room f =
-        let pk = peak (table_effect table.Literal) q literal.0 es c literal.2 st in
+        let pk = peak (table_effect table.Literal) q literal.shape es c literal.allows st in
         let r = reach (table_effect table.Literal) keep q m (length c) es es (a ∷ c) literal st (changes 0 1 (length c) (suc (length c)) (omega arith)) refl in
-        let r' : Stand = record { low = q.low +ℤ pos 1; high = q.high +ℤ pos 1; shape = literal.0 } in
+        let r' : Stand = record { low = q.low +ℤ pos 1; high = q.high +ℤ pos 1; shape = literal.shape } in
         record {
           data_cells = omega (arith, pk, lower);
           return_cells = omega (arith, room, bounds.back);
           depth = tt;
           executes = omega (arith, room, bounds.back);
-          onward = call_onward d next work w es (a ∷ c) r' t l ma (subst (λ z. Leads e (called_effect next (effect_of known d)) keep z t) literal.3 leads) (subst (λ z. Stood base z (a ∷ c) es) literal.3 r.stood) (omega (arith, pk)) room f;
+          onward = call_onward d next work w es (a ∷ c) r' t l ma (subst (λ z. Leads e (called_effect next (effect_of known d)) keep z t) literal.place leads)
+              (subst (λ z. Stood base z (a ∷ c) es) literal.place r.stood) (omega (arith, pk)) room f;
         }

@@ -10,7 +10,7 @@ use Rattle.depth_certifier.specs.Effects.{table_effect, Known, effect_of, Next, 
 use Rattle.depth_certifier.specs.Certificate.{loops_in, loops, loops_in_arms, Head, SameShape, dropped, doubles, WordLeads, ItemFits, Fits, ArmsFit, EffectIn, Limits}
 use Rattle.depth_certifier.specs.Walk.{Walk, Walked, then_do, takes, decides, zero_way, joins, leaving, enters, returns_to, shape_at, word_walk, item_walk, walk, arms_walk, made}
 use Rattle.depth_certifier.proofs.SourcePlaces.{below_same, below_then}
-use Rattle.depth_certifier.proofs.Work.{CaseEnds, head_above}
+use Rattle.depth_certifier.proofs.Work.{LastItems, head_above}
 use Rattle.depth_certifier.proofs.Tests.{then_ok, effect_in_same, effect_in_then}
 use Rattle.depth_certifier.proofs.WalkFits.{Grows, grows_then, grows_same, grows_as, grows_length, append_nil, steps_grow, Took, took, doubled_at, Decided}
 use Rattle.depth_certifier.proofs.WalkFits.{decided, ShapeIs, Joined, joined_by, Returned, returned, Topped, left, ended, Noted, noted_earlier, Entered}
@@ -69,17 +69,17 @@ module _ (lim : Limits) (zs : Known) (given : Option (List (ℤ × ℤ))) where
       record {
         grows = grows_as w o (0 + (loops first + (loops second + 0))) (loops first + loops second) (omega arith) (grows_then w m o 0 (loops first + (loops second + 0)) g0 gmo);
         topped = subst (λ z. Topped top z.leaves) (sym jn.rest) sb.topped;
-        fits = λ e g hs n l b. (
-          m.place,
-          zero_way w.place m.place,
-          dm.leads e (effect_in_then (made m) (made o) e gmo.effect g),
-          subst (λ z. Fits zs hs e (branch_next next) first z m.place l o.place) k1
+        fits = λ e g hs n l b. record {
+          on_true = m.place;
+          on_false = zero_way w.place m.place;
+          decides = dm.leads e (effect_in_then (made m) (made o) e gmo.effect g);
+          first = subst (λ z. Fits zs hs e (branch_next next) first z m.place l o.place) k1
               (sa.fits e (effect_in_then (made i) (made o) e gio.effect g) hs (noted_earlier given i o (loops second + 0) hs gio n) l o.place
-              (below_then 0 0 i.leaves o.leaves l gio.leaves b) jn.left),
-          subst (λ z. Fits zs hs e (branch_next next) second z (zero_way w.place m.place) l o.place) k2
+              (below_then 0 0 i.leaves o.leaves l gio.leaves b) jn.left);
+          second = subst (λ z. Fits zs hs e (branch_next next) second z (zero_way w.place m.place) l o.place) k2
               (sb.fits e (effect_in_then (made j) (made o) e g3.effect g) hs (noted_earlier given j o 0 hs g3 n) l o.place
-              (below_then 0 0 j.leaves o.leaves l g3.leaves b) jn.right),
-        );
+              (below_then 0 0 j.leaves o.leaves l g3.leaves b) jn.right);
+        };
       }
 
   until_stands : (body : Nodes) (top : Option Shape) (next : Next) (w h m n : Walk) → Entered given w h → WalkStands top More body h m →
@@ -91,16 +91,16 @@ module _ (lim : Limits) (zs : Known) (given : Option (List (ℤ × ℤ))) where
       record {
         grows = grows_as w n (1 + (loops body + 0)) (1 + loops body) (omega arith) (grows_then w h n 1 (loops body + 0) en.grows ghn);
         topped = tp;
-        fits = λ e g hs no l b. (
-          h.place,
-          en.head hs (noted_earlier given h n (loops body + 0) hs ghn no),
-          m.place,
-          subst (λ z. Fits zs hs e More body z h.place l m.place) k1
+        fits = λ e g hs no l b. record {
+          head = h.place;
+          enters = en.head hs (noted_earlier given h n (loops body + 0) hs ghn no);
+          test = m.place;
+          items = subst (λ z. Fits zs hs e More body z h.place l m.place) k1
               (st.fits e (effect_in_then (made m) (made n) e g2.effect g) hs (noted_earlier given m n 0 hs g2 no) l m.place
-              (below_then 0 0 m.leaves n.leaves l g2.leaves b) (below_same m.place)),
-          tk.leads e g,
-          back,
-        );
+              (below_then 0 0 m.leaves n.leaves l g2.leaves b) (below_same m.place));
+          flag = tk.leads e g;
+          again = back;
+        };
       }
 
   while_stands : (test body : Nodes) (top : Option Shape) (next : Next) (w h m y n : Walk) → Entered given w h → WalkStands top Flag test h m →
@@ -120,19 +120,19 @@ module _ (lim : Limits) (zs : Known) (given : Option (List (ℤ × ℤ))) where
       record {
         grows = record { effect = all.effect; leaves = all.leaves; more = all.more; heads = all.heads; count = all.count };
         topped = sb.topped;
-        fits = λ e g hs no l b. (
-          h.place,
-          en.head hs (noted_earlier given h n (loops test + (0 + loops body)) hs ghn no),
-          m.place,
-          subst (λ z. Fits zs hs e Flag test z h.place l m.place) k1
+        fits = λ e g hs no l b. record {
+          head = h.place;
+          enters = en.head hs (noted_earlier given h n (loops test + (0 + loops body)) hs ghn no);
+          test = m.place;
+          test_items = subst (λ z. Fits zs hs e Flag test z h.place l m.place) k1
               (st.fits e (effect_in_then (made m) (made n) e gmn.effect g) hs (noted_earlier given m n (0 + loops body) hs gmn no) l m.place
-              (below_then 0 0 m.leaves n.leaves l gmn.leaves b) (below_same m.place)),
-          y.place,
-          dm.leads e (effect_in_then (made y) (made n) e g3.effect g),
-          n.place,
-          subst (λ z. Fits zs hs e More body z y.place l n.place) k3 (sb.fits e g hs no l n.place b (below_same n.place)),
-          back,
-        );
+              (below_then 0 0 m.leaves n.leaves l gmn.leaves b) (below_same m.place));
+          on_true = y.place;
+          decides = dm.leads e (effect_in_then (made y) (made n) e g3.effect g);
+          turn = n.place;
+          items = subst (λ z. Fits zs hs e More body z y.place l n.place) k3 (sb.fits e g hs no l n.place b (below_same n.place));
+          again = back;
+        };
       }
 
   while_closes : (test body : Nodes) (top : Option Shape) (next : Next) (w h m y n v o : Walk) → Entered given w h → WalkStands top Flag test h m →
@@ -171,14 +171,14 @@ module _ (lim : Limits) (zs : Known) (given : Option (List (ℤ × ℤ))) where
       record {
         grows = record { effect = all.effect; leaves = all.leaves; more = all.more; heads = all.heads; count = all.count };
         topped = st.topped;
-        fits = λ e g hs no l b. (
-          h.place,
-          en.head hs (noted_earlier given h m (loops body) hs st.grows no),
-          m.place,
-          subst (λ z. Fits zs hs e More body z h.place l m.place) k1 (st.fits e g hs no l m.place b (below_same m.place)),
-          back,
-          refl,
-        );
+        fits = λ e g hs no l b. record {
+          head = h.place;
+          enters = en.head hs (noted_earlier given h m (loops body) hs st.grows no);
+          turn = m.place;
+          items = subst (λ z. Fits zs hs e More body z h.place l m.place) k1 (st.fits e g hs no l m.place b (below_same m.place));
+          again = back;
+          none_after = refl;
+        };
       }
 
   again_closes : (body : Nodes) (top : Option Shape) (next : Next) (w h m v o : Walk) → Entered given w h → WalkStands top More body h m →
@@ -213,23 +213,23 @@ module _ (lim : Limits) (zs : Known) (given : Option (List (ℤ × ℤ))) where
           count = (let c = gij.count in omega (arith, c));
         };
         topped = tp;
-        fits = λ e g hs no l b. (
-          i.place,
-          ti.leads e (effect_in_then (made i) (made j) e gij.effect g),
-          h.place,
-          subst (λ z. Head hs z i.place h.place) k0 (en.head hs (noted_earlier given h j (loops body + (0 + 0)) hs ghj no)),
-          j.place,
-          shape,
-          m.place,
-          subst (λ z. Fits zs hs e More body z h.place j.place m.place) k1
+        fits = λ e g hs no l b. record {
+          start = i.place;
+          begins = ti.leads e (effect_in_then (made i) (made j) e gij.effect g);
+          head = h.place;
+          enters = subst (λ z. Head hs z i.place h.place) k0 (en.head hs (noted_earlier given h j (loops body + (0 + 0)) hs ghj no));
+          out = j.place;
+          same = shape;
+          turn = m.place;
+          items = subst (λ z. Fits zs hs e More body z h.place j.place m.place) k1
               (st.fits e (effect_in_then (made m) (made j) e gmj.effect g) hs (noted_earlier given m j (0 + 0) hs gmj no) j.place m.place
-              (subst (λ z. Below z j.place) tn.steps.leaves jn.left) (below_same m.place)),
-          n.place,
-          tn.leads e (effect_in_then (made n) (made j) e g4.effect g),
-          back,
-          jn.right,
-          refl,
-        );
+              (subst (λ z. Below z j.place) tn.steps.leaves jn.left) (below_same m.place));
+          next = n.place;
+          turns = tn.leads e (effect_in_then (made n) (made j) e g4.effect g);
+          again = back;
+          leaves = jn.right;
+          after_loop = refl;
+        };
       }
 
   do_closes : (body : Nodes) (plus : Bool) (top : Option Shape) (next : Next) (w i h m n v o : Walk) → Topped top w.leaves →
@@ -279,22 +279,24 @@ module _ (lim : Limits) (zs : Known) (given : Option (List (ℤ × ℤ))) where
         };
         topped = tp;
         fits = λ e g hs no l b. (
-          i.place,
-          ti.leads e (effect_in_then (made i) (made j) e gij.effect g),
-          h.place,
-          subst (λ z. Head hs z i.place h.place) k0 (en.head hs (noted_earlier given h j (loops body + (0 + (0 + 0))) hs ghj no)),
-          j.place,
-          shape,
-          m.place,
-          subst (λ z. Fits zs hs e More body z h.place j.place m.place) k1
-              (st.fits e (effect_in_then (made m) (made j) e gmj.effect g) hs (noted_earlier given m j (0 + (0 + 0)) hs gmj no) j.place m.place
-              (subst (λ z. Below z j.place) kept_leaves jn.left) (below_same m.place)),
-          n.place,
-          tn.leads e (effect_in_then (made n) (made j) e g4.effect g),
-          back,
-          below_then 0 0 n.place q.place j.place jq.right jn.right,
+          record {
+            start = i.place;
+            begins = ti.leads e (effect_in_then (made i) (made j) e gij.effect g);
+            head = h.place;
+            enters = subst (λ z. Head hs z i.place h.place) k0 (en.head hs (noted_earlier given h j (loops body + (0 + (0 + 0))) hs ghj no));
+            out = j.place;
+            same = shape;
+            turn = m.place;
+            items = subst (λ z. Fits zs hs e More body z h.place j.place m.place) k1
+                (st.fits e (effect_in_then (made m) (made j) e gmj.effect g) hs (noted_earlier given m j (0 + (0 + 0)) hs gmj no) j.place m.place
+                (subst (λ z. Below z j.place) kept_leaves jn.left) (below_same m.place));
+            next = n.place;
+            turns = tn.leads e (effect_in_then (made n) (made j) e g4.effect g);
+            again = back;
+            leaves = below_then 0 0 n.place q.place j.place jq.right jn.right;
+            after_loop = refl;
+          },
           below_then 0 0 i.place q.place j.place jq.left jn.right,
-          refl,
         );
       }
 
@@ -314,7 +316,7 @@ module _ (lim : Limits) (zs : Known) (given : Option (List (ℤ × ℤ))) where
   pub record ArmsStand (top : Option Shape) (next : Next) (arms : Arms) (rest : Nodes) (w o : Walk) : Type 0 where
     pub grows : Grows w o (loops_in_arms arms + loops rest)
     pub topped : Topped top o.leaves
-    pub fits : (e : Effect) → EffectIn (made o) e → (hs : List (ℤ × ℤ)) → Noted given o.heads hs → (l t : Place) → Below o.leaves l → Below o.place t → ArmsFit zs hs e next arms (CaseEnds zs hs e rest l t) (length w.heads) w.place l t
+    pub fits : (e : Effect) → EffectIn (made o) e → (hs : List (ℤ × ℤ)) → Noted given o.heads hs → (l t : Place) → Below o.leaves l → Below o.place t → ArmsFit zs hs e next arms (LastItems zs hs e rest l t) (length w.heads) w.place l t
 
   abbrev case_last : Option Shape → Nodes → Walk → Walked
   case_last top rest m = then_do (going top More rest m) (takes lim (table_effect table.EndCase) keep)
@@ -325,13 +327,13 @@ module _ (lim : Limits) (zs : Known) (given : Option (List (ℤ × ℤ))) where
       record {
         grows = grows_as w o (loops rest + 0) (0 + loops rest) (omega arith) (grows_then w m o (loops rest) 0 st.grows g2);
         topped = took_topped top m o st.topped tk.steps.leaves;
-        fits = λ e g hs no l t bl bt. (
-          m.place,
-          st.fits e (effect_in_then (made m) (made o) e g2.effect g) hs (noted_earlier given m o 0 hs g2 no) l m.place (below_then 0 0 m.leaves o.leaves l g2.leaves bl) (below_same m.place),
-          o.place,
-          tk.leads e g,
-          bt,
-        );
+        fits = λ e g hs no l t bl bt. record {
+          last = m.place;
+          items = st.fits e (effect_in_then (made m) (made o) e g2.effect g) hs (noted_earlier given m o 0 hs g2 no) l m.place (below_then 0 0 m.leaves o.leaves l g2.leaves bl) (below_same m.place);
+          end = o.place;
+          drops = tk.leads e g;
+          below = bt;
+        };
       }
 
   arm_stands : (tests body : Nodes) (others : Arms) (rest : Nodes) (top : Option Shape) (next : Next) (w m i j b u o : Walk) → WalkStands top More tests w m →
@@ -354,20 +356,20 @@ module _ (lim : Limits) (zs : Known) (given : Option (List (ℤ × ℤ))) where
       record {
         grows = grows_as w o (loops tests + (0 + (0 + (loops body + (more + 0))))) (loops tests + loops body + loops_in_arms others + loops rest) (omega arith) (grows_then w m o (loops tests) (0 + (0 + (loops body + (more + 0)))) g1 gmo);
         topped = subst (λ z. Topped top z.leaves) (sym jn.rest) su.topped;
-        fits = λ e g hs no l t bl bt. (
-          m.place,
-          st.fits e (effect_in_then (made m) (made o) e gmo.effect g) hs (noted_earlier given m o (0 + (0 + (loops body + (more + 0)))) hs gmo no) l m.place (below_then 0 0 m.leaves o.leaves l gmo.leaves bl) (below_same m.place),
-          i.place,
-          ti.leads e (effect_in_then (made i) (made o) e gio.effect g),
-          j.place,
-          tj.leads e (effect_in_then (made j) (made o) e gjo.effect g),
-          subst (λ z. Fits zs hs e next body z j.place l t) k1
+        fits = λ e g hs no l t bl bt. record {
+          test = m.place;
+          tests = st.fits e (effect_in_then (made m) (made o) e gmo.effect g) hs (noted_earlier given m o (0 + (0 + (loops body + (more + 0)))) hs gmo no) l m.place (below_then 0 0 m.leaves o.leaves l gmo.leaves bl) (below_same m.place);
+          on_other = i.place;
+          to_other = ti.leads e (effect_in_then (made i) (made o) e gio.effect g);
+          on_equal = j.place;
+          to_equal = tj.leads e (effect_in_then (made j) (made o) e gjo.effect g);
+          items = subst (λ z. Fits zs hs e next body z j.place l t) k1
               (sb.fits e (effect_in_then (made b) (made o) e gbo.effect g) hs (noted_earlier given b o (more + 0) hs gbo no) l t
-              (below_then 0 0 b.leaves o.leaves l gbo.leaves bl) (below_then 0 0 b.place o.place t jn.left bt)),
-          subst (λ z. ArmsFit zs hs e next others (CaseEnds zs hs e rest l t) z i.place l t) k2
+              (below_then 0 0 b.leaves o.leaves l gbo.leaves bl) (below_then 0 0 b.place o.place t jn.left bt));
+          others = subst (λ z. ArmsFit zs hs e next others (LastItems zs hs e rest l t) z i.place l t) k2
               (su.fits e (effect_in_then (made u) (made o) e g6.effect g) hs (noted_earlier given u o 0 hs g6 no) l t
-              (below_then 0 0 u.leaves o.leaves l g6.leaves bl) (below_then 0 0 u.place o.place t jn.right bt)),
-        );
+              (below_then 0 0 u.leaves o.leaves l g6.leaves bl) (below_then 0 0 u.place o.place t jn.right bt));
+        };
       }
 
   mutual

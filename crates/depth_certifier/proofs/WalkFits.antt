@@ -93,7 +93,7 @@ module _ (lim : Limits) where
       let il = limits_true x.exit p s t1.1 in
       let same : r ≡ m = cc (b.1) in
       subst (λ z. Took x change (record w { place = At p }) z) same (record {
-        leads = λ e g. (s, is, allows_of x p s 0 0 0 (record w { place = At p }) e g, refl, il);
+        leads = λ e g. record { shape = s; changes = is; allows = allows_of x p s 0 0 0 (record w { place = At p }) e g; place = refl; limits = il };
         steps = record { effect = record { need = omega arith; peak = omega arith; back = omega arith; exit = exit_in_same w.exit }; leaves = refl; heads = refl };
       })
 
@@ -324,7 +324,8 @@ entered_at None (At p) w h e =
     let x : ℤ × ℤ = (p.low, p.high) in
     let same : noting x (At p) w ≡ h = cc (e) in
     subst (λ z. Entered None (record w { place = At p }) z) same (record {
-      head = λ hs n. (let i = at_head w.heads x hs n in (p, refl, below_same (At p), ap (λ y. y.0) (sym i), ap (λ y. y.1) (sym i)));
+      head = λ hs n. (let i = at_head w.heads x hs n in
+          record { stand = p; place = refl; inside = below_same (At p); low = ap (λ y. y.0) (sym i); high = ap (λ y. y.1) (sym i) });
       grows = noting_grows (record w { place = At p }) x (At p);
       leaves = refl;
     })
@@ -344,13 +345,13 @@ entered_at (Some gs) (At p) w h e =
     let t = and_parts (int_le x.0 p.low) (int_le p.high x.1) a.0 in
     let same : noting no_interval (At q) w ≡ h = (let i = a.1 in cc (i)) in
     subst (λ z. Entered (Some gs) (record w { place = At p }) z) same (record {
-      head = λ hs n. (
-        q,
-        refl,
-        record { low = omega (arith, ints, int_le_true x.0 p.low t.0); high = omega (arith, ints, int_le_true p.high x.1 t.1); same = refl },
-        ap (λ y. (slice_index_or y (length w.heads) no_interval).0) n,
-        ap (λ y. (slice_index_or y (length w.heads) no_interval).1) n,
-      );
+      head = λ hs n. record {
+        stand = q;
+        place = refl;
+        inside = record { low = omega (arith, ints, int_le_true x.0 p.low t.0); high = omega (arith, ints, int_le_true p.high x.1 t.1); same = refl };
+        low = ap (λ y. (slice_index_or y (length w.heads) no_interval).0) n;
+        high = ap (λ y. (slice_index_or y (length w.heads) no_interval).1) n;
+      };
       grows = noting_grows (record w { place = At p }) no_interval (At q);
       leaves = refl;
     })

@@ -45,10 +45,18 @@ pub record Allows (body x : Effect) (p : Stand) (shape : Shape) : Type 0 where
   pub back : size p.shape + x.back ≤ body.back
   pub room : size shape ≤ body.back
 
--- an effect x and a change of the return entries lead from one place to another
+-- an effect x and a change of the return entries lead from a stand to a place
+pub record EffectLeads (body x : Effect) (change : Shape → Option Shape) (p : Stand) (t : Place) : Type 0 where
+  pub shape : Shape
+  pub changes : change p.shape ≡ Some shape
+  pub allows : Allows body x p shape
+  pub place : t ≡ after x.exit p shape
+  pub limits : InLimits t
+
+-- the same from a place
 abbrev pub Leads : Effect → Effect → (Shape → Option Shape) → Place → Place → Type 0
 Leads body x change Unreachable t = t ≡ Unreachable
-Leads body x change (At p) t = (shape : Shape) × (change p.shape ≡ Some shape) × Allows body x p shape × (t ≡ after x.exit p shape) × InLimits t
+Leads body x change (At p) t = EffectLeads body x change p t
 Leads body x change (Doubled p) t = ⊥
 
 -- ?DUP before a flag
@@ -68,10 +76,18 @@ Decides body (Doubled p) on_true on_false = (on_true ≡ At p) × (on_false ≡ 
 abbrev pub no_interval : ℤ × ℤ
 no_interval = (pos 0, pos 0)
 
--- the head of the k-th loop, where it is come to from s
+-- the head of the k-th loop, where it is come to from a stand
+pub record HasHead (heads : List (ℤ × ℤ)) (k : ℕ) (p : Stand) (h : Place) : Type 0 where
+  pub stand : Stand
+  pub place : h ≡ At stand
+  pub inside : InsideBy 0 0 p stand
+  pub low : stand.low ≡ (slice_index_or heads k no_interval).0
+  pub high : stand.high ≡ (slice_index_or heads k no_interval).1
+
+-- the same from a place
 abbrev pub Head : List (ℤ × ℤ) → ℕ → Place → Place → Type 0
 Head heads k Unreachable h = h ≡ Unreachable
-Head heads k (At p) h = (q : Stand) × (h ≡ At q) × InsideBy 0 0 p q × (q.low ≡ (slice_index_or heads k no_interval).0) × (q.high ≡ (slice_index_or heads k no_interval).1)
+Head heads k (At p) h = HasHead heads k p h
 Head heads k (Doubled p) h = ⊥
 
 abbrev pub SameShape : Place → Place → Type 0
@@ -106,6 +122,77 @@ abbrev pub doubles : Next → Word → Bool
 doubles Flag QDup = true
 doubles next word = false
 
+-- what each structure asks, where its parts lead from place to place as they say
+module _ (heads : List (ℤ × ℤ)) (body : Effect) where
+  pub record IfFits (first_fits second_fits : Place → Type 0) (s : Place) : Type 0 where
+    pub on_true : Place
+    pub on_false : Place
+    pub decides : Decides body s on_true on_false
+    pub first : first_fits on_true
+    pub second : second_fits on_false
+
+  pub record UntilFits (k : ℕ) (inner_fits : Place → Place → Type 0) (s t : Place) : Type 0 where
+    pub head : Place
+    pub enters : Head heads k s head
+    pub test : Place
+    pub items : inner_fits head test
+    pub flag : Leads body (table_effect table.Until) keep test t
+    pub again : Below t head
+
+  pub record WhileFits (k : ℕ) (test_fits inner_fits : Place → Place → Type 0) (s t : Place) : Type 0 where
+    pub head : Place
+    pub enters : Head heads k s head
+    pub test : Place
+    pub test_items : test_fits head test
+    pub on_true : Place
+    pub decides : Decides body test on_true t
+    pub turn : Place
+    pub items : inner_fits on_true turn
+    pub again : Below turn head
+
+  pub record AgainFits (k : ℕ) (inner_fits : Place → Place → Type 0) (s t : Place) : Type 0 where
+    pub head : Place
+    pub enters : Head heads k s head
+    pub turn : Place
+    pub items : inner_fits head turn
+    pub again : Below turn head
+    pub none_after : t ≡ Unreachable
+
+  -- a loop that x begins with a limit and an index: its items lead from the head to the end of a turn, and each LEAVE to within `out`
+  pub record CountedFits (x : Effect) (plus : Bool) (k : ℕ) (inner_fits : Place → Place → Place → Type 0) (s t : Place) : Type 0 where
+    pub start : Place
+    pub begins : Leads body x push_loop s start
+    pub head : Place
+    pub enters : Head heads k start head
+    pub out : Place
+    pub same : SameShape head out
+    pub turn : Place
+    pub items : inner_fits head out turn
+    pub next : Place
+    pub turns : Leads body (table_effect (turn_word plus)) keep turn next
+    pub again : Below next head
+    pub leaves : Below next out
+    pub after_loop : t ≡ dropped out
+
+  -- OF leads to the items of its arm where the cells are equal, and else to the other arms
+  pub record ArmFits (tests_fit inner_fits others_fit : Place → Type 0) : Type 0 where
+    pub test : Place
+    pub tests : tests_fit test
+    pub on_other : Place
+    pub to_other : Leads body (of_effect (negsuc 0)) keep test on_other
+    pub on_equal : Place
+    pub to_equal : Leads body (of_effect (negsuc 1)) keep test on_equal
+    pub items : inner_fits on_equal
+    pub others : others_fit on_other
+
+  -- the last items of a case, and ENDCASE
+  pub record CaseEnds (rest_fits : Place → Type 0) (t : Place) : Type 0 where
+    pub last : Place
+    pub items : rest_fits last
+    pub end : Place
+    pub drops : Leads body (table_effect table.EndCase) keep last end
+    pub below : Below end t
+
 module _ (known : Known) (heads : List (ℤ × ℤ)) (body : Effect) where
   abbrev pub WordLeads : Bool → Word → Place → Place → Type 0
   WordLeads true word s t = Doubles body s t
@@ -121,23 +208,16 @@ module _ (known : Known) (heads : List (ℤ × ℤ)) (body : Effect) where
         (m : Place) × Leads body (table_effect table.Literal) keep s m × Leads body (called_effect next (effect_of known definition)) keep m t
     ItemFits next (Text kind address length) k s l t = Leads body (table_effect (text_word kind)) keep s t
     ItemFits next (If first second) k s l t =
-        (on_true : Place) × (on_false : Place) × Decides body s on_true on_false × Fits (branch_next next) first k on_true l t × Fits (branch_next next) second (k + loops first) on_false l t
-    ItemFits next (Until inner) k s l t =
-        (h : Place) × Head heads k s h × (m : Place) × Fits More inner (k + 1) h l m × Leads body (table_effect table.Until) keep m t × Below t h
+        IfFits heads body (λ m. Fits (branch_next next) first k m l t) (λ m. Fits (branch_next next) second (k + loops first) m l t) s
+    ItemFits next (Until inner) k s l t = UntilFits heads body k (λ h m. Fits More inner (k + 1) h l m) s t
     ItemFits next (While test inner) k s l t =
-        (h : Place) × Head heads k s h × (m : Place) × Fits Flag test (k + 1) h l m × (on_true : Place) × Decides body m on_true t
-        × (n : Place) × Fits More inner (k + 1 + loops test) on_true l n × Below n h
-    ItemFits next (Again inner) k s l t =
-        (h : Place) × Head heads k s h × (m : Place) × Fits More inner (k + 1) h l m × Below m h × (t ≡ Unreachable)
-    ItemFits next (Do inner plus) k s l t =
-        (i : Place) × Leads body (table_effect table.Do) push_loop s i × (h : Place) × Head heads k i h × (x : Place) × SameShape h x × (m : Place) × Fits More inner (k + 1) h x m
-        × (n : Place) × Leads body (table_effect (turn_word plus)) keep m n × Below n h × Below n x × (t ≡ dropped x)
+        WhileFits heads body k (λ h m. Fits Flag test (k + 1) h l m) (λ m n. Fits More inner (k + 1 + loops test) m l n) s t
+    ItemFits next (Again inner) k s l t = AgainFits heads body k (λ h m. Fits More inner (k + 1) h l m) s t
+    ItemFits next (Do inner plus) k s l t = CountedFits heads body (table_effect table.Do) plus k (λ h x m. Fits More inner (k + 1) h x m) s t
     -- where ?DO leaves the loop out, its end is come to at once
     ItemFits next (QDo inner plus) k s l t =
-        (i : Place) × Leads body (table_effect table.QDo) push_loop s i × (h : Place) × Head heads k i h × (x : Place) × SameShape h x × (m : Place) × Fits More inner (k + 1) h x m
-        × (n : Place) × Leads body (table_effect (turn_word plus)) keep m n × Below n h × Below n x × Below i x × (t ≡ dropped x)
-    ItemFits next (Case arms rest) k s l t =
-        ArmsFit (branch_next next) arms (λ k s. (m : Place) × Fits More rest k s l m × (n : Place) × Leads body (table_effect table.EndCase) keep m n × Below n t) k s l t
+        (loop : CountedFits heads body (table_effect table.QDo) plus k (λ h x m. Fits More inner (k + 1) h x m) s t) × Below loop.start loop.out
+    ItemFits next (Case arms rest) k s l t = ArmsFit (branch_next next) arms (λ k s. CaseEnds heads body (λ m. Fits More rest k s l m) t) k s l t
     ItemFits next Leave k s l t = (m : Place) × Leads body (table_effect table.Leave) keep s m × Below m l × (t ≡ Unreachable)
     ItemFits next Exit k s l t = EndsBody body s × (t ≡ Unreachable)
 
@@ -145,12 +225,12 @@ module _ (known : Known) (heads : List (ℤ × ℤ)) (body : Effect) where
     Fits next Empty k s l t = Below s t
     Fits next (Then node rest) k s l t = (m : Place) × ItemFits (next_of next rest) node k s l m × Fits next rest (k + loops_in node) m l t
 
-    -- the arms of a case: OF leads to its body where the cells are equal, and else to the other arms. Where there is none, `last` is left
+    -- the arms of a case. Where there is none, `last` is left
     pub ArmsFit : Next → Arms → (ℕ → Place → Type 0) → ℕ → Place → Place → Place → Type 0
     ArmsFit next NoArm last k s l t = last k s
     ArmsFit next (Arm tests inner others) last k s l t =
-        (m : Place) × Fits More tests k s l m × (on_other : Place) × Leads body (of_effect (negsuc 0)) keep m on_other × (on_equal : Place) × Leads body (of_effect (negsuc 1)) keep m on_equal
-        × Fits next inner (k + loops tests) on_equal l t × ArmsFit next others last (k + loops tests + loops inner) on_other l t
+        ArmFits heads body (λ m. Fits More tests k s l m) (λ m. Fits next inner (k + loops tests) m l t)
+        (λ m. ArmsFit next others last (k + loops tests + loops inner) m l t)
 
   -- the items of a definition
   abbrev pub BodyFits : Nodes → ℕ → Type 0

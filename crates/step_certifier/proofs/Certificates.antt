@@ -16,7 +16,8 @@ use Rattle.depth_certifier.specs.declared.follow.Next.{Next}
 use Rattle.depth_certifier.specs.declared.follow.Next.TheVariants.{Return, Flag, More}
 use Rattle.depth_certifier.specs.Place.{Shape, Stand, Place, Unreachable, At, Doubled, entry, Below}
 use Rattle.depth_certifier.specs.Effects.{table_effect, Known, idle, effect_of, next_of, branch_next, called_effect, word_effect, kept_by, shape_after, keep, push_loop, text_word, turn_word, of_effect}
-use Rattle.depth_certifier.specs.Certificate.{loops_in, after, Leads, Doubles, Decides, Head, SameShape, without_loop, dropped, ExitHas, EndsBody, doubles, WordLeads, ItemFits, Fits, ArmsFit, BodyFits, Cert, known_of, BodiesFit, IsValid}
+use Rattle.depth_certifier.specs.Certificate.{loops_in, after, Leads, Doubles, Decides, Head, SameShape, without_loop, dropped, ExitHas, EndsBody, doubles}
+use Rattle.depth_certifier.specs.Certificate.{CaseEnds, WordLeads, ItemFits, Fits, ArmsFit, BodyFits, Cert, known_of, BodiesFit, IsValid}
 use Rattle.step_certifier.proofs.Entries.{Height, Same, raised, Lowers, WordLevel, CallLevel, EndLevel, Alike, TurnLevel, NodeLevel, Level, ArmsLevel, BodyLevel, LevelProgram}
 
 -- ---- heights of places
@@ -94,7 +95,7 @@ module _ (body x : Effect) (back : returns x.exit ≡ true) where
   came s t p shape (Some exit) back e = subst (Stands (length shape)) (sym e) refl
 
   leads_by : (change : Shape → Option Shape) (p : Stand) (t : Place) → Leads body x change (At p) t → (shape : Shape) × (change p.shape ≡ Some shape) × Stands (length shape) t
-  leads_by change p t l = (l.0, l.1, came (At p) t p l.0 x.exit back l.3)
+  leads_by change p t l = (l.shape, l.changes, came (At p) t p l.shape x.exit back l.place)
 
   keep_stands : (p : Stand) (t : Place) → Leads body x keep (At p) t → Stands (length p.shape) t
   keep_stands p t l = (let m = leads_by keep p t l in subst (λ (s : Shape). Stands (length s) t) (sym (same_shape p.shape m.0 m.1)) m.2)
@@ -208,7 +209,7 @@ decides_false body (Doubled p) a b d = ap height d.1
 
 head_stands : (heads : List (ℤ × ℤ)) (k n : ℕ) (i h : Place) → Stands n i → Head heads k i h → Stands n h
 head_stands heads k n Unreachable h i d = absurd i
-head_stands heads k n (At p) h i d = subst (Stands n) (sym d.1) (ap length (sym d.2.same) ∙ i)
+head_stands heads k n (At p) h i d = subst (Stands n) (sym d.place) (ap length (sym d.inside.same) ∙ i)
 head_stands heads k n (Doubled p) h i d = absurd i
 
 -- the head of a loop to which s leads
@@ -294,8 +295,8 @@ module _ (known : Known) (heads : List (ℤ × ℤ)) (own : ℕ) where
   word_fits false word s t is l = word_level body known.shared word s t l
 
   -- what stands for the last items of a case and ENDCASE
-  abbrev Rest : Nodes → Place → Place → ℕ → Place → Type 0
-  Rest rest l t k s = (m : Place) × Fits known heads body More rest k s l m × (n : Place) × Leads body (table_effect table.EndCase) keep m n × Below n t
+  abbrev LastItems : Nodes → Place → Place → ℕ → Place → Type 0
+  LastItems rest l t k s = CaseEnds heads body (λ m. Fits known heads body More rest k s l m) t
 
   mutual
     item_level : (next : Next) (node : Node) (k : ℕ) (s l t : Place) → ItemFits known heads body next node k s l t → NodeLevel back own (out_of l) node (height s) (height t)
@@ -306,31 +307,32 @@ module _ (known : Known) (heads : List (ℤ × ℤ)) (own : ℕ) where
         subst (λ h. CallLevel (back d) h (height t)) (kept_height body (table_effect table.Literal) s f.0 refl f.1) (call_level body (called_effect next (effect_of known d)) (effect_of known d).exit f.0 t refl f.2)
     item_level next (Text kind address size) k s l t f = same_of (height s) (height t) (kept_height body (table_effect (text_word kind)) s t (text_returns kind) f)
     item_level next (If first second) k s l t f = (
-      subst (λ h. Level back own (out_of l) first h (height t)) (decides_true body s f.0 f.1 f.2) (items_level (branch_next next) first k f.0 l t f.3),
-      subst (λ h. Level back own (out_of l) second h (height t)) (decides_false body s f.0 f.1 f.2) (items_level (branch_next next) second _ f.1 l t f.4),
+      subst (λ h. Level back own (out_of l) first h (height t)) (decides_true body s f.on_true f.on_false f.decides) (items_level (branch_next next) first k f.on_true l t f.first),
+      subst (λ h. Level back own (out_of l) second h (height t)) (decides_false body s f.on_true f.on_false f.decides) (items_level (branch_next next) second _ f.on_false l t f.second),
     )
     item_level next (Until inner) k s l t f = tt
     item_level next (While test inner) k s l t f = tt
     item_level next (Again inner) k s l t f = tt
     item_level next (Do inner plus) k s l t f =
-        let e = enters body (table_effect table.Do) heads k s f.0 f.2 refl f.1 f.3 in
-        subst (λ a. (end : Height) × Level back own a inner (raised (height s)) end × TurnLevel (height s) end a) (sym (ap height f.12)) (
-          height f.6,
-          subst (λ h. Level back own (out_of f.4) inner h (height f.6)) (sym (enters_raised s f.2 e)) (items_level More inner (k + 1) f.2 f.4 f.6 f.7),
-          turn_level body (table_effect (turn_word plus)) s f.2 f.4 f.6 f.8 (turn_returns plus) e f.5 f.9 f.10 f.11,
+        let e = enters body (table_effect table.Do) heads k s f.start f.head refl f.begins f.enters in
+        subst (λ a. (end : Height) × Level back own a inner (raised (height s)) end × TurnLevel (height s) end a) (sym (ap height f.after_loop)) (
+          height f.turn,
+          subst (λ h. Level back own (out_of f.out) inner h (height f.turn)) (sym (enters_raised s f.head e)) (items_level More inner (k + 1) f.head f.out f.turn f.items),
+          turn_level body (table_effect (turn_word plus)) s f.head f.out f.turn f.next (turn_returns plus) e f.same f.turns f.again f.leaves,
         )
     item_level next (QDo inner plus) k s l t f =
-        let e = enters body (table_effect table.QDo) heads k s f.0 f.2 refl f.1 f.3 in
-        subst (λ a. (end : Height) × Level back own a inner (raised (height s)) end × TurnLevel (height s) end a × Same (height s) a) (sym (ap height f.13)) (
-          height f.6,
-          subst (λ h. Level back own (out_of f.4) inner h (height f.6)) (sym (enters_raised s f.2 e)) (items_level More inner (k + 1) f.2 f.4 f.6 f.7),
-          turn_level body (table_effect (turn_word plus)) s f.2 f.4 f.6 f.8 (turn_returns plus) e f.5 f.9 f.10 f.11,
-          skips body (table_effect table.QDo) s f.0 f.4 refl f.1 f.12,
+        let g = f.0 in
+        let e = enters body (table_effect table.QDo) heads k s g.start g.head refl g.begins g.enters in
+        subst (λ a. (end : Height) × Level back own a inner (raised (height s)) end × TurnLevel (height s) end a × Same (height s) a) (sym (ap height g.after_loop)) (
+          height g.turn,
+          subst (λ h. Level back own (out_of g.out) inner h (height g.turn)) (sym (enters_raised s g.head e)) (items_level More inner (k + 1) g.head g.out g.turn g.items),
+          turn_level body (table_effect (turn_word plus)) s g.head g.out g.turn g.next (turn_returns plus) e g.same g.turns g.again g.leaves,
+          skips body (table_effect table.QDo) s g.start g.out refl g.begins f.1,
         )
     item_level next (Case arms rest) k s l t f =
         arms_level (branch_next next) arms rest l t
-        (λ j q g. wider (out_of l) rest (height q) (height g.0) (height t) (items_level More rest j q l g.0 g.1)
-        (subst (λ h. Same h (height t)) (kept_height body (table_effect table.EndCase) g.0 g.2 refl g.3) (below_same g.2 t g.4)))
+        (λ j q g. wider (out_of l) rest (height q) (height g.last) (height t) (items_level More rest j q l g.last g.items)
+        (subst (λ h. Same h (height t)) (kept_height body (table_effect table.EndCase) g.last g.end refl g.drops) (below_same g.end t g.below)))
         k s f
     item_level next Leave k s l t f = leave_level body s f.0 l f.1 f.2
     item_level next Exit k s l t f = end_level body s f.0
@@ -339,14 +341,15 @@ module _ (known : Known) (heads : List (ℤ × ℤ)) (own : ℕ) where
     items_level next Empty k s l t f = below_same s t f
     items_level next (Then node rest) k s l t f = (height f.0, item_level (next_of next rest) node k s l f.0 f.1, items_level next rest (k + loops_in node) f.0 l t f.2)
 
-    arms_level : (next : Next) (arms : Arms) (rest : Nodes) (l t : Place) → ((j : ℕ) (q : Place) → Rest rest l t j q → Level back own (out_of l) rest (height q) (height t)) → (k : ℕ) (s : Place) →
-        ArmsFit known heads body next arms (Rest rest l t) k s l t → ArmsLevel back own (out_of l) arms (λ h. Level back own (out_of l) rest h (height t)) (height s) (height t)
+    arms_level : (next : Next) (arms : Arms) (rest : Nodes) (l t : Place) → ((j : ℕ) (q : Place) → LastItems rest l t j q → Level back own (out_of l) rest (height q) (height t)) → (k : ℕ) (s : Place) →
+        ArmsFit known heads body next arms (LastItems rest l t) k s l t → ArmsLevel back own (out_of l) arms (λ h. Level back own (out_of l) rest h (height t)) (height s) (height t)
     arms_level next NoArm rest l t each k s f = each k s f
     arms_level next (Arm tests inner others) rest l t each k s f = (
-      height f.0,
-      items_level More tests k s l f.0 f.1,
-      subst (λ h. Level back own (out_of l) inner h (height t)) (kept_height body (of_effect _) f.0 f.4 refl f.5) (items_level next inner _ f.4 l t f.6),
-      subst (λ h. ArmsLevel back own (out_of l) others (λ h. Level back own (out_of l) rest h (height t)) h (height t)) (kept_height body (of_effect _) f.0 f.2 refl f.3) (arms_level next others rest l t each _ f.2 f.7),
+      height f.test,
+      items_level More tests k s l f.test f.tests,
+      subst (λ h. Level back own (out_of l) inner h (height t)) (kept_height body (of_effect _) f.test f.on_equal refl f.to_equal) (items_level next inner _ f.on_equal l t f.items),
+      subst (λ h. ArmsLevel back own (out_of l) others (λ h. Level back own (out_of l) rest h (height t)) h (height t)) (kept_height body (of_effect _) f.test f.on_other refl f.to_other)
+          (arms_level next others rest l t each _ f.on_other f.others),
     )
 
   body_level : (nodes : Nodes) (k : ℕ) → BodyFits known heads body nodes k → BodyLevel back own nodes

@@ -12,11 +12,11 @@ use Rattle.forth_program.specs.Price.{step_price, text_price, turn_price}
 use Rattle.step_certifier.specs.Cost.{Last, Other, last_after, last_of, loop_turns, entered_turns, or_none, true_end, text_cost, node_cost, cost, tests_cost, greatest_end}
 use Rattle.step_certifier.specs.Refusal.{or_else, closed, node_refusal, refusal, arms_refusal, node_calls, calls, arms_call}
 use Rattle.step_certifier.proofs.Entries.{Height, CallLevel, NodeLevel, Level, ArmsLevel}
-use Rattle.step_certifier.proofs.Ending.{at, Within, more, Onward, same_first}
+use Rattle.step_certifier.proofs.RunEnds.{at, Within, more, Onward, same_first}
 use Rattle.step_certifier.proofs.Levels.{At, same_at, Over, knows_literal, or_first, or_next, call_earlier, word_most, after_items}
 use Rattle.step_certifier.proofs.Ways.{Around, Through, Leaves, Exits, through_more, forget, leaves_more, exits_more, acts, end_onward, word_onward}
 use Rattle.step_certifier.proofs.Ways.{flag_onward, of_onward, text_onward, leave_onward, closed_through, closed_leads, or_left, or_right}
-use Rattle.step_certifier.proofs.Looping.{CallEnds, Earlier, ItemsEnd, do_onward, q_do_onward}
+use Rattle.step_certifier.proofs.LoopCosts.{CallEnds, Earlier, ItemsEnd, do_onward, q_do_onward}
 
 module _ (p : SourceProgram) (comes_back : ℕ → Bool) (known : List ℕ) (own : ℕ) where
   abbrev Calls : ℕ → Type 0

@@ -1,16 +1,16 @@
 mod Samples
 pub mod Entries
-pub mod Ending
+pub mod RunEnds
 pub mod Levels
-pub mod Turning
+pub mod TurnsLeft
 pub mod Ways
-pub mod Looping
+pub mod LoopCosts
 pub mod Items
 pub mod Programs
 pub mod Certificates
-pub mod Capping
-pub mod Counting
-pub mod Marking
+pub mod CappedCosts
+pub mod CountedCosts
+pub mod ReachedMarks
 pub mod OnChip
-pub mod Answering
+pub mod BoundAnswers
 pub mod LoopTurns

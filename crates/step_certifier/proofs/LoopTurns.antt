@@ -7,7 +7,7 @@ use Rattle.std.proofs.lemmas.Int.{ints}
 use Rattle.cell_math.specs.Cell.{sum_of, difference_of, signed}
 use Rattle.forth_program.specs.Step.{crosses}
 use Rattle.step_certifier.specs.Turns.{distance_up, turns_up, turns_down, turns, ends_at, MakesTurns, TurnsAreCounted}
-use Rattle.step_certifier.proofs.Turning.{neg_pos, pos_neg, difference_small, moved, signed_small, signed_large, some_same}
+use Rattle.step_certifier.proofs.TurnsLeft.{neg_pos, pos_neg, difference_small, moved, signed_small, signed_large, some_same}
 
 -- ---- one turn up, and one down
 

@@ -16,9 +16,9 @@ use Rattle.step_certifier.specs.Refusal.{refusal, calls, reaches, refusal_in, fi
 use Rattle.step_certifier.specs.Bound.{bound, refused_item, Bounded, Refused, answer_of, step_bound}
 use Rattle.step_certifier.proofs.Entries.{LevelProgram}
 use Rattle.step_certifier.specs.Law.{EndsWithin}
-use Rattle.step_certifier.proofs.Ending.{at, Within, more}
+use Rattle.step_certifier.proofs.RunEnds.{at, Within, more}
 use Rattle.step_certifier.proofs.Ways.{Exits, exits_more, end_onward, acts, or_left, or_right}
-use Rattle.step_certifier.proofs.Looping.{Earlier}
+use Rattle.step_certifier.proofs.LoopCosts.{Earlier}
 use Rattle.step_certifier.proofs.Items.{items_end}
 
 and_both : (a b : Bool) → a ≡ true → b ≡ true → (a && b) ≡ true

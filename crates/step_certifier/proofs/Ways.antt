@@ -15,7 +15,7 @@ use Rattle.forth_program.specs.Price.{step_price}
 use Rattle.step_certifier.specs.Cost.{Last, Other, last_after, true_end}
 use Rattle.step_certifier.specs.Refusal.{word_refusal}
 use Rattle.step_certifier.proofs.Entries.{Height, Same, raised, Lowers, WordLevel, EndLevel}
-use Rattle.step_certifier.proofs.Ending.{at, Within, more, Onward, stepped}
+use Rattle.step_certifier.proofs.RunEnds.{at, Within, more, Onward, stepped}
 use Rattle.step_certifier.proofs.Levels.{At, same_at, raised_at, lowers_to, lowered_at, Over, under, found, Inside, Knows}
 
 pub or_left : (a b : Bool) → a ≡ true → (a || b) ≡ true

@@ -1,5 +1,5 @@
 use Rattle.std.proofs.Common.{◌≡◌, [], ◌∷◌, ◌++◌, rules}
-use Rattle.step_certifier.proofs.Counting.{longer, table_grows}
+use Rattle.step_certifier.proofs.CountedCosts.{longer, table_grows}
 use Rattle.step_certifier.proofs.bounding.costs.Goals as goal
 
 pub loop-d-preserved : goal.loop-d-preserved

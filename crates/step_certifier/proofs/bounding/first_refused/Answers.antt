@@ -3,7 +3,7 @@ use Rattle.step_certifier.specs.Cost.{Other}
 use Rattle.std.specs.Prelude.{slice_index_or}
 use Rattle.forth_program.specs.Tree.{Empty}
 use Rattle.step_certifier.specs.Refusal.{refusal, reaches}
-use Rattle.step_certifier.proofs.Marking.{passes, not_reached, without_refusal}
+use Rattle.step_certifier.proofs.ReachedMarks.{passes, not_reached, without_refusal}
 use Rattle.step_certifier.proofs.bounding.first_refused.Goals as goal
 use Rattle.step_certifier.proofs.bounding.first_refused.Goals.{then-marks-d+in_default, else-marks-d}
 

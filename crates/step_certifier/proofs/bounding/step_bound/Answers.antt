@@ -3,7 +3,7 @@ use Rattle.j1_table.specs.Image.{Content}
 use Rattle.library_laws.specs.Bodies.{whole_library}
 use Rattle.step_certifier.specs.Bound.{Bounded, step_bound}
 use Rattle.step_certifier.specs.Law.{EndsOnChip}
-use Rattle.step_certifier.proofs.Answering.{steps_of}
+use Rattle.step_certifier.proofs.BoundAnswers.{steps_of}
 use Rattle.step_certifier.proofs.bounding.step_bound.Goals as goal
 
 pub returns-clause-ends : goal.returns-clause-ends

@@ -1,6 +1,6 @@
 use Rattle.std.proofs.Common.{rules, arith}
 use Rattle.forth_program.specs.ItemTrees.{node_of, tree_of}
-use Rattle.step_certifier.proofs.Counting.{do_cost, q_do_cost, item_passes, tests_pass, ends_pass, ends_within, ends_done}
+use Rattle.step_certifier.proofs.CountedCosts.{do_cost, q_do_cost, item_passes, tests_pass, ends_pass, ends_within, ends_done}
 use Rattle.step_certifier.specs.Views.{last_of}
 use Rattle.step_certifier.proofs.costs.+costs.Goals as goal
 

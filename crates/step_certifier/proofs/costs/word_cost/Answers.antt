@@ -1,5 +1,5 @@
 use Rattle.std.proofs.Common.{rules}
-use Rattle.step_certifier.proofs.Counting.{word_capped}
+use Rattle.step_certifier.proofs.CountedCosts.{word_capped}
 use Rattle.step_certifier.proofs.costs.word_cost.Goals as goal
 
 pub returns : goal.returns

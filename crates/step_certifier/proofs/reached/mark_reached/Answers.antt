@@ -1,6 +1,6 @@
 use Rattle.std.proofs.Common.{rules, arith}
 use Rattle.forth_program.specs.ItemTrees.{tree_of}
-use Rattle.step_certifier.proofs.Marking.{marks_called, marks_kept}
+use Rattle.step_certifier.proofs.ReachedMarks.{marks_called, marks_kept}
 use Rattle.step_certifier.proofs.reached.mark_reached.Goals as goal
 
 pub loop-d-preserved-then-marks-d : goal.loop-d-preserved-then-marks-d

@@ -12,9 +12,9 @@ use Rattle.step_certifier.specs.Turns.{distance_up, turns}
 use Rattle.step_certifier.specs.Cost.{Last, Other, One, Two, TextSize, last_of, literal_of, loop_turns, turns_by, entered_turns, or_none, cost}
 use Rattle.step_certifier.specs.Refusal.{closed, refusal, calls}
 use Rattle.step_certifier.proofs.Entries.{Height, Same, raised, TurnLevel, Level}
-use Rattle.step_certifier.proofs.Ending.{at, Within, more, Onward}
+use Rattle.step_certifier.proofs.RunEnds.{at, Within, more, Onward}
 use Rattle.step_certifier.proofs.Levels.{At, same_at, raised_at, Over, found, Inside, Knows, knows_value}
-use Rattle.step_certifier.proofs.Turning.{Left, turns_left, one_less, loop_left, plus_left}
+use Rattle.step_certifier.proofs.TurnsLeft.{Left, turns_left, one_less, loop_left, plus_left}
 use Rattle.step_certifier.proofs.Ways.{Around, Through, Leaves, Exits, exits_more, acts}
 
 module _ (p : SourceProgram) (comes_back : ℕ → Bool) (known : List ℕ) (own : ℕ) where

@@ -10,7 +10,7 @@ use Rattle.forth_program.specs.Tree.{Node, Nodes, Do, QDo, Empty}
 use Rattle.forth_program.specs.Price.{turn_price}
 use Rattle.step_certifier.specs.Capped.{most_steps, capped}
 use Rattle.step_certifier.specs.Cost.{Last, Other, last_after, or_none, loop_turns, entered_turns, true_end, node_cost, cost, tests_cost, greatest_end, costs_with}
-use Rattle.step_certifier.proofs.Capping.{same_sum, same_product, items_capped, end_capped, end_joins}
+use Rattle.step_certifier.proofs.CappedCosts.{same_sum, same_product, items_capped, end_capped, end_joins}
 
 -- a list from a place on
 pub split_at : {A : Type 0} (l : List A) (i : ℕ) (d : A) → i < length l → drop i l ≡ slice_index_or l i d ∷ drop (i + 1) l

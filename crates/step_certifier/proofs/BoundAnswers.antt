@@ -6,7 +6,7 @@ use Rattle.step_certifier.specs.declared.bound.BoundCause.TheVariants.{TooLarge}
 use Rattle.step_certifier.specs.Capped.{most_steps, capped}
 use Rattle.step_certifier.specs.Cost.{costs}
 use Rattle.step_certifier.specs.Bound.{bound, refused_item, Bounded, Refused, answer_of, step_bound}
-use Rattle.step_certifier.proofs.Capping.{index_capped}
+use Rattle.step_certifier.proofs.CappedCosts.{index_capped}
 
 -- steps, or none where there are too many
 abbrev pub Steps : SourceProgram → Option ℕ → Type 0
