@@ -25,13 +25,13 @@ cells_more n = At (record { low = pos n; high = pos n; shape = [] })
 -- an effect with one end leads from so many cells to so many
 leads : (body x : Effect) (change : Shape → Option Shape) (n m : ℕ) (by : ℤ) → change [] ≡ Some [] → x.need ≤ body.need + n → n + x.peak ≤ body.peak → x.back ≤ body.back → x.exit ≡ Some (by, by) → (pos n +ℤ by) ≡ pos m → m ≤ 33 →
     Leads body x change (cells_more n) (cells_more m)
-leads body x change n m by keeps need peak back exit sum small = (
-  [],
-  keeps,
-  record { need = omega (arith, ints, need); peak = omega (arith, ints, peak); back = omega (arith, back); room = omega arith },
-  sym (ap (λ e. after e (record { low = pos n; high = pos n; shape = [] }) []) exit ∙ ap (λ z. At (record { low = z; high = z; shape = [] })) sum),
-  (omega (arith, ints), omega (arith, ints, small)),
-)
+leads body x change n m by keeps need peak back exit sum small = record {
+  shape = [];
+  changes = keeps;
+  allows = record { need = omega (arith, ints, need); peak = omega (arith, ints, peak); back = omega (arith, back); room = omega arith };
+  place = sym (ap (λ e. after e (record { low = pos n; high = pos n; shape = [] }) []) exit ∙ ap (λ z. At (record { low = z; high = z; shape = [] })) sum);
+  limits = (omega (arith, ints), omega (arith, ints, small));
+}
 
 ends_here : (n : ℕ) → Below (cells_more n) (cells_more n)
 ends_here n = record { low = omega (arith, ints); high = omega (arith, ints); same = refl }
