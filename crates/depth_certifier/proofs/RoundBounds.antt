@@ -309,12 +309,24 @@ module _ (p : SourceProgram) where
   pub no_heads_fine : HeadsFine []
   no_heads_fine j = (omega (arith, ints), omega (arith, ints), omega (arith, ints))
 
-  pub round_follows : (z u : Cert) → Intervals (known_of z) → round p (known_of z) ≡ Ok u →
-      (t : Bodies) × Follows (known_of z) p.bodies 0 [] t × (u.effects ≡ t.effects) × (u.heads ≡ t.heads)
-      × (u.shared ≡ shared_of (record { definitions = t.effects; shared = z.shared }) p.tokens)
+  -- a round gives u, by what it makes of the bodies
+  pub record RoundFollows (z u : Cert) : Type 0 where
+    pub made_bodies : Bodies
+    pub follows : Follows (known_of z) p.bodies 0 [] made_bodies
+    pub effects : u.effects ≡ made_bodies.effects
+    pub heads : u.heads ≡ made_bodies.heads
+    pub shared : u.shared ≡ shared_of (record { definitions = made_bodies.effects; shared = z.shared }) p.tokens
+
+  pub round_follows : (z u : Cert) → Intervals (known_of z) → round p (known_of z) ≡ Ok u → RoundFollows z u
   round_follows z u intervals h =
       let s = with_shared_ok z.shared (bodies_round (definition_limits p) (known_of z) p.bodies 0 []) u h in
-      (s.0, bodies_follow (known_of z) intervals p.bodies 0 [] s.0 no_heads_fine s.1, ap (λ c. c.effects) (sym s.2), ap (λ c. c.heads) (sym s.2), ap (λ c. c.shared) (sym s.2))
+      record {
+        made_bodies = s.0;
+        follows = bodies_follow (known_of z) intervals p.bodies 0 [] s.0 no_heads_fine s.1;
+        effects = ap (λ c. c.effects) (sym s.2);
+        heads = ap (λ c. c.heads) (sym s.2);
+        shared = ap (λ c. c.shared) (sym s.2);
+      }
 
   pub rounds_intervals : (n : ℕ) (z : Cert) → after_rounds p n ≡ Ok z → Intervals (known_of z)
   rounds_intervals zero z h =
@@ -326,8 +338,8 @@ module _ (p : SourceProgram) where
       of (Err e) earlier i = cc (i)
       of (Ok y) earlier i =
           let f = round_follows y z (earlier y refl) i in
-          let each : (d : ℕ) → SharedInterval (slice_index_or z.effects d idle).exit = λ d. subst (λ es. SharedInterval (slice_index_or es d idle).exit) (sym f.2) (f.1.intervals d) in
-          record { definitions = each; shared = subst (λ e. SharedInterval e.exit) (sym f.4) (shared_interval (record { definitions = f.0.effects; shared = y.shared }) p.tokens f.1.intervals) }
+          let each : (d : ℕ) → SharedInterval (slice_index_or z.effects d idle).exit = λ d. subst (λ es. SharedInterval (slice_index_or es d idle).exit) (sym f.effects) (f.follows.intervals d) in
+          record { definitions = each; shared = subst (λ e. SharedInterval e.exit) (sym f.shared) (shared_interval (record { definitions = f.made_bodies.effects; shared = y.shared }) p.tokens f.follows.intervals) }
 
   -- where a round changes no effect, its answer is the least certificate
   pub settled : All ProperToken p.tokens → (n : ℕ) (t u : Cert) → after_rounds p n ≡ Ok t → round p (known_of t) ≡ Ok u → u.effects ≡ t.effects → u.shared ≡ t.shared → IsLeast p u
@@ -337,24 +349,24 @@ module _ (p : SourceProgram) where
       intervals : Intervals (known_of t)
       intervals = rounds_intervals n t h
 
-      f : (t' : Bodies) × Follows (known_of t) p.bodies 0 [] t' × (u.effects ≡ t'.effects) × (u.heads ≡ t'.heads) × (u.shared ≡ shared_of (record { definitions = t'.effects; shared = t.shared }) p.tokens)
+      f : RoundFollows t u
       f = round_follows t u intervals i
 
       known_same : known_of t ≡ known_of u
       known_same = λ j. record { definitions = sym same_effects j; shared = sym same_shared j }
 
       shared_is : u.shared ≡ shared_of (known_of u) p.tokens
-      shared_is = f.4 ∙ ap (λ k. shared_of k p.tokens) (λ j. record { definitions = sym f.2 j; shared = sym same_shared j })
+      shared_is = f.shared ∙ ap (λ k. shared_of k p.tokens) (λ j. record { definitions = sym f.effects j; shared = sym same_shared j })
 
       valid : IsValid p u
       valid = record {
         bodies = subst (λ k. BodiesFit p k u.heads p.bodies u.effects 0 0) known_same
-            (subst (λ es. BodiesFit p (known_of t) u.heads p.bodies es 0 0) (sym f.2) (subst (λ hs. BodiesFit p (known_of t) hs p.bodies f.0.effects 0 0) (sym f.3) f.1.valid));
+            (subst (λ es. BodiesFit p (known_of t) u.heads p.bodies es 0 0) (sym f.effects) (subst (λ hs. BodiesFit p (known_of t) hs p.bodies f.made_bodies.effects 0 0) (sym f.heads) f.follows.valid));
         tokens = λ k d less.
             token_in_join (known_of u) (slice_index_or p.tokens k d) (proper k d less)
             (subst (EffectIn (token_effect (known_of u) (slice_index_or p.tokens k d))) (sym shared_is) (each_joined (known_of u) p.tokens k d less));
         shared = subst (λ e. SharedInterval e.exit) (sym same_shared) intervals.shared;
-        heads = all_fine u.heads (subst HeadsFine (sym f.3) f.1.fine);
+        heads = all_fine u.heads (subst HeadsFine (sym f.heads) f.follows.fine);
       }
 
       below : (y : Cert) → IsValid p y → CertIn u y

@@ -233,8 +233,8 @@ module _ (p : SourceProgram) where
   round_fine : (z u : Cert) → Intervals (known_of z) → round p (known_of z) ≡ Ok u → CertFine u
   round_fine z u intervals h =
       let f = round_follows p z u intervals h in (
-        subst AllFine (sym f.2) (each_fine (known_of z) f.0.heads p.bodies f.0.effects 0 0 f.1.valid),
-        subst Fine (sym f.4) (shared_fine (record { definitions = f.0.effects; shared = z.shared }) p.tokens (all_keep (known_of z) f.0.heads p.bodies f.0.effects 0 0 f.1.valid)),
+        subst AllFine (sym f.effects) (each_fine (known_of z) f.made_bodies.heads p.bodies f.made_bodies.effects 0 0 f.follows.valid),
+        subst Fine (sym f.shared) (shared_fine (record { definitions = f.made_bodies.effects; shared = z.shared }) p.tokens (all_keep (known_of z) f.made_bodies.heads p.bodies f.made_bodies.effects 0 0 f.follows.valid)),
       )
 
   pub rounds_fine : (n : ℕ) (z : Cert) → after_rounds p n ≡ Ok z → CertFine z
@@ -269,17 +269,17 @@ module _ (p : SourceProgram) where
   round_rises : (x y z u : Cert) → EachIn x.effects y.effects → EffectIn x.shared y.shared → Intervals (known_of y) → round p (known_of x) ≡ Ok z → round p (known_of y) ≡ Ok u → Rises z u
   round_rises x y z u h s intervals i j =
       let f = round_follows p y u intervals j in
-      let t = f.0 in
+      let t = f.made_bodies in
       let less : KnownIn (known_of x) (known_of y) = record { definitions = index_in x.effects y.effects h; shared = s } in
-      let b = bodies_found p (known_of x) (known_of y) t.heads less p.bodies t.effects 0 0 f.1.valid [] refl (heads_none p t.heads) in
+      let b = bodies_found p (known_of x) (known_of y) t.heads less p.bodies t.effects 0 0 f.follows.valid [] refl (heads_none p t.heads) in
       let o = with_shared_ok p x.shared (bodies_round (definition_limits p) (known_of x) p.bodies 0 []) z i in
       let same : b.0 ≡ o.0 = bodies_same b.0 o.0 (bodies_round (definition_limits p) (known_of x) p.bodies 0 []) b.1 o.1 in
       let within : EachIn o.0.effects t.effects = subst (λ v. EachIn v.effects t.effects) same b.2 in
       let z_effects : z.effects ≡ o.0.effects = ap (λ c. c.effects) (sym o.2) in
       let z_shared : z.shared ≡ shared_of (record { definitions = o.0.effects; shared = x.shared }) p.tokens = ap (λ c. c.shared) (sym o.2) in
       record {
-        effects = subst (λ es. EachIn es u.effects) (sym z_effects) (subst (EachIn o.0.effects) (sym f.2) within);
-        shared = subst (λ e. EffectIn e u.shared) (sym z_shared) (subst (EffectIn (shared_of (record { definitions = o.0.effects; shared = x.shared }) p.tokens)) (sym f.4)
+        effects = subst (λ es. EachIn es u.effects) (sym z_effects) (subst (EachIn o.0.effects) (sym f.effects) within);
+        shared = subst (λ e. EffectIn e u.shared) (sym z_shared) (subst (EffectIn (shared_of (record { definitions = o.0.effects; shared = x.shared }) p.tokens)) (sym f.shared)
             (shared_rises (record { definitions = o.0.effects; shared = x.shared }) (record { definitions = t.effects; shared = y.shared }) p.tokens (index_in o.0.effects t.effects within)));
       }
     where
@@ -297,7 +297,7 @@ module _ (p : SourceProgram) where
   rounds_rise zero z u h i =
       let same : record { effects = bottoms p; shared = bottom; heads = [] } ≡ z = cc (h) in
       let f = round_follows p z u (rounds_intervals p zero z h) i in
-      subst (λ c. Rises c u) same (record { effects = subst (EachIn (bottoms p)) (sym f.2) (bottoms_rise (known_of z) f.0.heads p.bodies f.0.effects 0 0 f.1.valid); shared = bottom_in u.shared })
+      subst (λ c. Rises c u) same (record { effects = subst (EachIn (bottoms p)) (sym f.effects) (bottoms_rise (known_of z) f.made_bodies.heads p.bodies f.made_bodies.effects 0 0 f.follows.valid); shared = bottom_in u.shared })
   rounds_rise (suc n) z u h i = of (after_rounds p n) refl (λ y is j. rounds_rise n y z is j) h
     where
       of : (r : Result Cert Refusal) → after_rounds p n ≡ r → ((y : Cert) → after_rounds p n ≡ Ok y → round p (known_of y) ≡ Ok z → Rises y z) → next_round p r ≡ Ok z → Rises z u

@@ -37,20 +37,27 @@ module _ (p : SourceProgram) (comes_back : ℕ → Bool) (known : List ℕ) (own
     EndsWith false step = step ≡ 1
     EndsWith true step = literal_of (last_of Other body) ≡ Some step
 
-    turns_enough : (plus : Bool) (limit start : ℕ) → closed (loop_turns (Two limit start) body plus) ≡ None → (n : ℕ) × (step : ℕ) × (loop_turns (Two limit start) body plus ≡ Some n) × EndsWith plus step × Left limit step n start
-    turns_enough false limit start r = (distance_up limit start, 1, refl, refl, loop_left limit start)
-    turns_enough true limit start r = of (literal_of (last_of Other body)) refl r
+    -- the number of turns of a loop from a start to a limit, and their step
+    record KnownTurns (plus : Bool) (limit start : ℕ) : Type 0 where
+      count : ℕ
+      step : ℕ
+      counted : loop_turns (Two limit start) body plus ≡ Some count
+      ends : EndsWith plus step
+      left : Left limit step count start
+
+    known_turns : (plus : Bool) (limit start : ℕ) → closed (loop_turns (Two limit start) body plus) ≡ None → KnownTurns plus limit start
+    known_turns false limit start r = record { count = distance_up limit start; step = 1; counted = refl; ends = refl; left = loop_left limit start }
+    known_turns true limit start r = of (literal_of (last_of Other body)) refl r
       where
         numbers : (step : ℕ) (o : Option ℕ) → turns limit start step ≡ o → closed o ≡ None → (n : ℕ) × (turns limit start step ≡ Some n)
         numbers step None is r = cc (r)
         numbers step (Some n) is r = (n, is)
 
-        of : (o : Option ℕ) → literal_of (last_of Other body) ≡ o → closed (turns_by limit start o) ≡ None →
-            (n : ℕ) × (step : ℕ) × (turns_by limit start (literal_of (last_of Other body)) ≡ Some n) × (literal_of (last_of Other body) ≡ Some step) × Left limit step n start
+        of : (o : Option ℕ) → literal_of (last_of Other body) ≡ o → closed (turns_by limit start o) ≡ None → KnownTurns true limit start
         of None is r = cc (r)
         of (Some step) is r =
             let n = numbers step (turns limit start step) refl r in
-            (n.0, step, ap (turns_by limit start) is ∙ n.1, is, plus_left limit start step n.0 n.1)
+            record { count = n.0; step = step; counted = ap (turns_by limit start) is ∙ n.1; ends = is; left = plus_left limit start step n.0 n.1 }
 
     module _ (r : refusal own Other body ≡ None) (earlier : Earlier body) (a : Around) (h m : Height) (after : List Work) (most : ℕ) (end : Height) (lev : Level comes_back own m body (raised h) end) (turns_at : TurnLevel h end m)
         (t : Through p a after Other m most) (x : comes_back own ≡ true → Exits p a.callers most) (limit step : ℕ) (es : List Entry) (i : At h es) (o : Over a.base es) where
@@ -137,10 +144,10 @@ module _ (p : SourceProgram) (comes_back : ℕ → Bool) (known : List ℕ) (own
       -- the loop that begins
       begun : (limit start : ℕ) (es : List Entry) (c : List ℕ) (w : World) → closed (loop_turns (Two limit start) body plus) ≡ None → At h es → Over a.base es →
           Within p (at (before body (Turn body plus ∷ after)) (Loop limit start ∷ es) a.callers c w) (or_none (loop_turns (Two limit start) body plus) * each + most)
-      begun limit start es c w known_turns i o =
-          let n = turns_enough plus limit start known_turns in
-          subst (λ k. Within p (at (before body (Turn body plus ∷ after)) (Loop limit start ∷ es) a.callers c w) (or_none k * each + most)) (sym n.2)
-          (turning r earlier a h m after most end lev turns_at t x limit n.1 es i o plus n.3 n.0 start n.4 c w)
+      begun limit start es c w are_known i o =
+          let n = known_turns plus limit start are_known in
+          subst (λ k. Within p (at (before body (Turn body plus ∷ after)) (Loop limit start ∷ es) a.callers c w) (or_none k * each + most)) (sym n.counted)
+          (turning r earlier a h m after most end lev turns_at t x limit n.step es i o plus n.ends n.count start n.left c w)
 
       pub do_onward : (last : Last) (work : List Work) (es : List Entry) (c : List ℕ) (w : World) → closed (loop_turns last body plus) ≡ None → Knows last c → At h es → Over a.base es →
           Onward p (loop_begins body plus after c (at work es a.callers c w)) (or_none (loop_turns last body plus) * each + most)
