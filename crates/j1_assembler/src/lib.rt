@@ -27,7 +27,9 @@ mod refusal;
 mod rows;
 mod text;
 
+pub use fields::next_field;
 pub use laws::{assembles_by_grammar, refuses_first_bad};
+pub use lines::next_line;
 pub use names::{name_of_cell, operation_name};
 pub use refusal::{AsmCause, AsmError};
 pub use text::assemble;

@@ -1,0 +1,10 @@
+pub mod Digits
+pub mod Options
+pub mod ToldRows
+pub mod NetRuns
+pub mod FirstBad
+pub mod Judged
+pub mod Turns
+pub mod SoundLinks
+pub mod Graphic
+pub mod CoreNames
