@@ -18,12 +18,13 @@ module _ (high return_high base : ℕ) (p : SourceProgram) (fs : List Frame) whe
   keeps_step : (s : State) (w : Work) (ws : List Work) → s.work ≡ w ∷ ws → Stays high return_high base p fs s → Keeps high return_high base p fs (step p s)
   unfolding step
   keeps_step s w ws same st =
-      let f = subst (λ z. FirstLater high return_high (first_work z) st.0 st.1) (sym same) (work_first high return_high w ws st.0 st.1 (subst (λ z. Walks high return_high z st.0 st.1) same st.4)) in
-      let a = st.2 in
-      let b = f.2 in
-      let c = st.3 in
-      let d = f.3 in
-      first_keeps high return_high base p fs (first_work s.work) s st.5 f.0 f.1 (omega (arith, a, b)) (omega (arith, c, d)) f.4
+      let f = subst (λ z. FirstLater high return_high (first_work z) st.cells_at st.entries_at) (sym same)
+      (work_first high return_high w ws st.cells_at st.entries_at (subst (λ z. Walks high return_high z st.cells_at st.entries_at) same st.walks)) in
+      let a = st.cells_within in
+      let b = f.cells_least in
+      let c = st.entries_within in
+      let d = f.entries_least in
+      first_keeps high return_high base p fs (first_work s.work) s st.callers f.cells f.entries (omega (arith, a, b)) (omega (arith, c, d)) f.walks
 
   along : (j : ℕ) (s u : State) → Stays high return_high base p fs s → steps p j s ≡ Goes u → ((i : ℕ) (v : State) → i < j → steps p i s ≡ Goes v → Busy v) → Stays high return_high base p fs u
   unfolding steps
@@ -38,12 +39,13 @@ module _ (high return_high base : ℕ) (p : SourceProgram) (fs : List Frame) whe
 
   fits : (u : State) → Stays high return_high base p fs u → (b : Busy u) → (length u.cells + step_peak (first_work u.work) ≤ base + high) × (1 + entries_height u.entries + back_of (first_work u.work) ≤ return_high)
   fits u st b =
-      let f = subst (λ z. FirstLater high return_high (first_work z) st.0 st.1) (sym b.2) (work_first high return_high b.0 b.1 st.0 st.1 (subst (λ z. Walks high return_high z st.0 st.1) b.2 st.4)) in
-      let g = first_fits high return_high (first_work u.work) f.0 f.1 f.4 in
-      let a = st.2 in
-      let b' = f.2 in
-      let c = st.3 in
-      let d = f.3 in
+      let f = subst (λ z. FirstLater high return_high (first_work z) st.cells_at st.entries_at) (sym b.2)
+      (work_first high return_high b.0 b.1 st.cells_at st.entries_at (subst (λ z. Walks high return_high z st.cells_at st.entries_at) b.2 st.walks)) in
+      let g = first_fits high return_high (first_work u.work) f.cells f.entries f.walks in
+      let a = st.cells_within in
+      let b' = f.cells_least in
+      let c = st.entries_within in
+      let d = f.entries_least in
       (let h = g.0 in omega (arith, a, b', h), let h = g.1 in omega (arith, c, d, h))
 
 -- from the beginning of a definition
@@ -54,10 +56,18 @@ pub definition_fits : (body : Nodes) (word : Word) (p : SourceProgram) (callers 
 definition_fits body word p callers c w x e need j s run busy =
     let high : ℕ = (entry_of word).need + (entry_of word).peak in
     let base : ℕ = length c - (entry_of word).need in
-    let start = walks_before high (entry_of word).back body [] (entry_of word).need 1 x e (x.0, x.1, omega arith, omega arith, tt) in
-    let a = start.2 in
-    let b = start.3 in
-    let st = along high (entry_of word).back base p callers j (entered body callers c w) s (start.0, start.1, omega (arith, a, need), omega (arith, b), start.4, refl) run (λ i v h g. busy i v (omega (arith, h)) g) in
+    let start = walks_before high (entry_of word).back body [] (entry_of word).need 1 x e
+    (record { cells = x.0; entries = x.1; cells_least = omega arith; entries_least = omega arith; walks = tt }) in
+    let a = start.cells_least in
+    let b = start.entries_least in
+    let st = along high (entry_of word).back base p callers j (entered body callers c w) s (record {
+      cells_at = start.cells;
+      entries_at = start.entries;
+      cells_within = omega (arith, a, need);
+      entries_within = omega (arith, b);
+      walks = start.walks;
+      callers = refl;
+    }) run (λ i v h g. busy i v (omega (arith, h)) g) in
     let here = busy j s (omega arith) run in
     let f = fits high (entry_of word).back base p callers s st here in
-    record { work = here.0; after = here.1; busy = here.2; callers = st.5; cells = (let h = f.0 in omega (arith, h, need)); returns = f.1 }
+    record { work = here.0; after = here.1; busy = here.2; callers = st.callers; cells = (let h = f.0 in omega (arith, h, need)); returns = f.1 }
