@@ -84,21 +84,21 @@ module _ (laws : Laws) (p : SourceProgram) (code : List ℕ) (place : ℕ → �
   module _ (pc now : ℕ) (data_above return_above : List (Option ℕ)) (frames : Frames code place p fs base) (due : unfinished fs ≤ now) where
     of_by : (equal : Bool) (out : Option ℕ) (body : Nodes) (others : Arms) (rest : Nodes) (w : List Work) (x y : ℕ) (es : List Entry) (c : List ℕ) →
         (h : Stands code place p out pc (OfTest body others rest ∷ w)) → Loops code place p out w → AreEntries es → AreCells (x ∷ y ∷ c) →
-        length c + 3 ≤ high → length (return_places es base) ≤ return_high → Leads 2 pc es (x ∷ y ∷ c) h.2.0 (flag equal ∷ y ∷ c) data_above return_above →
+        length c + 3 ≤ high → length (return_places es base) ≤ return_high → Leads 2 pc es (x ∷ y ∷ c) h.chooses.0 (flag equal ∷ y ∷ c) data_above return_above →
         Follows laws p code place size (There pc es (x ∷ y ∷ c) data_above return_above) 4 now high return_high (if equal then Goes (state (before body (EndOf ∷ w)) es c) else Goes (state (Todo (Case others rest) ∷ w) es (y ∷ c)))
     of_by true out body others rest w x y es c h l fe fc room back g =
         let v = There pc es (x ∷ y ∷ c) data_above return_above in
-        let b = passes laws p code place size high return_high fs world fits starts base h.1 h.2.0 65535 es (y ∷ c) g.0 g.1 (λ z. absurd (omega arith)) h.2.2 (omega arith) back in
-        let d = drops_one (following h.2.0) h.0 y es c (top (data_places (y ∷ c)) ∷ g.0) g.1 h.2.3 fe fc.1 (omega arith) back in
-        let few = h.5 in
-        comes laws p code place size v 4 h.0 4 now high return_high out (state (before body (EndOf ∷ w)) es c) base d.0 d.1 (omega arith) (omega arith) due
-        (runs_then laws p.data_start high return_high 3 1 v (There (following h.2.0) es (y ∷ c) (top (data_places (y ∷ c)) ∷ g.0) g.1) (There h.0 es c d.0 d.1)
-        (runs_then laws p.data_start high return_high 2 1 v (There h.2.0 es (65535 ∷ y ∷ c) g.0 g.1) (There (following h.2.0) es (y ∷ c) (top (data_places (y ∷ c)) ∷ g.0) g.1) g.2 b) d.2)
+        let b = passes laws p code place size high return_high fs world fits starts base h.other_at h.chooses.0 65535 es (y ∷ c) g.0 g.1 (λ z. absurd (omega arith)) h.chooses.2 (omega arith) back in
+        let d = drops_one (following h.chooses.0) h.body_at y es c (top (data_places (y ∷ c)) ∷ g.0) g.1 h.chooses.3 fe fc.1 (omega arith) back in
+        let few = h.body_few in
+        comes laws p code place size v 4 h.body_at 4 now high return_high out (state (before body (EndOf ∷ w)) es c) base d.0 d.1 (omega arith) (omega arith) due
+        (runs_then laws p.data_start high return_high 3 1 v (There (following h.chooses.0) es (y ∷ c) (top (data_places (y ∷ c)) ∷ g.0) g.1) (There h.body_at es c d.0 d.1)
+        (runs_then laws p.data_start high return_high 2 1 v (There h.chooses.0 es (65535 ∷ y ∷ c) g.0 g.1) (There (following h.chooses.0) es (y ∷ c) (top (data_places (y ∷ c)) ∷ g.0) g.1) g.2 b) d.2)
         (record {
           stands =
-              stands_before code place p body out h.0 (EndOf ∷ w)
+              stands_before code place p body out h.body_at (EndOf ∷ w)
               (λ e. (end_at : ℕ) × HoldsInstruction code e (Jump end_at) × Stands code place p out end_at w)
-              (λ e k. (inl (k.0, k.1, k.2), omega (arith, few))) h.3 (omega (arith, few));
+              (λ e k. (inl (k.0, k.1, k.2), omega (arith, few))) h.body_stands (omega (arith, few));
           loops = loops_before code place p body out (EndOf ∷ w) l;
           frames = frames;
           cells = fc.1.1;
@@ -108,10 +108,10 @@ module _ (laws : Laws) (p : SourceProgram) (code : List ℕ) (place : ℕ → �
         })
     of_by false out body others rest w x y es c h l fe fc room back g =
         let v = There pc es (x ∷ y ∷ c) data_above return_above in
-        let b = branches laws p code place size high return_high fs world fits starts base h.1 h.2.0 0 es (y ∷ c) g.0 g.1 refl h.2.2 (omega arith) back in
-        comes laws p code place size v 3 h.1 4 now high return_high out (state (Todo (Case others rest) ∷ w) es (y ∷ c)) base (top (data_places (y ∷ c)) ∷ g.0) g.1 (omega arith) (omega arith) due
-        (runs_then laws p.data_start high return_high 2 1 v (There h.2.0 es (0 ∷ y ∷ c) g.0 g.1) (There h.1 es (y ∷ c) (top (data_places (y ∷ c)) ∷ g.0) g.1) g.2 b)
-        (record { stands = (h.4, h.6); loops = l; frames = frames; cells = fc.1; entries = fe; world = fits; starts = starts })
+        let b = branches laws p code place size high return_high fs world fits starts base h.other_at h.chooses.0 0 es (y ∷ c) g.0 g.1 refl h.chooses.2 (omega arith) back in
+        comes laws p code place size v 3 h.other_at 4 now high return_high out (state (Todo (Case others rest) ∷ w) es (y ∷ c)) base (top (data_places (y ∷ c)) ∷ g.0) g.1 (omega arith) (omega arith) due
+        (runs_then laws p.data_start high return_high 2 1 v (There h.chooses.0 es (0 ∷ y ∷ c) g.0 g.1) (There h.other_at es (y ∷ c) (top (data_places (y ∷ c)) ∷ g.0) g.1) g.2 b)
+        (record { stands = (h.others_stand, h.others_few); loops = l; frames = frames; cells = fc.1; entries = fe; world = fits; starts = starts })
 
     pub of_follows : (out : Option ℕ) (body : Nodes) (others : Arms) (rest : Nodes) (w u : List Work) (es : List Entry) (c : List ℕ) →
         Stands code place p out pc (OfTest body others rest ∷ w) → Loops code place p out w → AreEntries es → AreCells c →
@@ -119,7 +119,7 @@ module _ (laws : Laws) (p : SourceProgram) (code : List ℕ) (place : ℕ → �
     of_follows out body others rest w u es [] h l fe fc room back = tt
     of_follows out body others rest w u es (x ∷ []) h l fe fc room back = tt
     of_follows out body others rest w u es (x ∷ y ∷ c) h l fe fc room back =
-        of_by (x == y) out body others rest w x y es c h l fe fc (omega arith) back (compares pc h.2.0 x y es c data_above return_above h.2.1 fe fc (omega arith) back)
+        of_by (x == y) out body others rest w x y es c h l fe fc (omega arith) back (compares pc h.chooses.0 x y es c data_above return_above h.chooses.1 fe fc (omega arith) back)
 
     pub end_case_follows : (out : Option ℕ) (next : ℕ) (w u : List Work) (es : List Entry) (c : List ℕ) → StandIn code pc end_case_cells next → Stands code place p out next w → Loops code place p out w → AreEntries es → AreCells c →
         length c ≤ high → length (return_places es base) ≤ return_high → Follows laws p code place size (There pc es c data_above return_above) 1 now high return_high (case_ends w c (state u es c))
@@ -132,26 +132,26 @@ module _ (laws : Laws) (p : SourceProgram) (code : List ℕ) (place : ℕ → �
     q_do_by : (equal : Bool) (out : Option ℕ) (body : Nodes) (plus : Bool) (w u : List Work) (start limit : ℕ) (es : List Entry) (c : List ℕ) →
         (h : Placed code place p out pc (ends_body w) (QDo body plus) (λ q. Stands code place p out q w)) → Loops code place p out w →
         tokens_of body + 2 + ahead w ≤ p.source_tokens →
-        AreEntries es → AreCells (start ∷ limit ∷ c) → length c + 4 ≤ high → length (return_places es base) + 1 ≤ return_high → Leads 3 pc es (start ∷ limit ∷ c) h.2.0 (flag equal ∷ start ∷ limit ∷ c) data_above return_above →
+        AreEntries es → AreCells (start ∷ limit ∷ c) → length c + 4 ≤ high → length (return_places es base) + 1 ≤ return_high → Leads 3 pc es (start ∷ limit ∷ c) h.skip.test (flag equal ∷ start ∷ limit ∷ c) data_above return_above →
         Follows laws p code place size (There pc es (start ∷ limit ∷ c) data_above return_above) 12 now high return_high (if equal then Goes (state w es c) else loop_begins body plus w (start ∷ limit ∷ c) (state u es (start ∷ limit ∷ c)))
     q_do_by true out body plus w u start limit es c h l n fe fc room back g =
         let v = There pc es (start ∷ limit ∷ c) data_above return_above in
         let both = start ∷ limit ∷ c in
-        let b = passes laws p code place size high return_high fs world fits starts base h.0 h.2.0 65535 es (start ∷ limit ∷ c) g.0 g.1 (λ z. absurd (omega arith)) h.2.3 (omega arith) (omega arith) in
-        let d = drops_two (following h.2.0) h.2.1 start limit es c (top (data_places (start ∷ limit ∷ c)) ∷ g.0) g.1 h.2.4 fe fc (omega arith) (omega arith) in
-        let j = jumps laws p code place size high return_high fs world fits starts base h.1 h.2.1 es c d.0 d.1 h.2.5 (omega arith) (omega arith) in
-        comes laws p code place size v 7 h.1 12 now high return_high out (state w es c) base d.0 d.1 (omega arith) (omega arith) due
-        (runs_then laws p.data_start high return_high 6 1 v (There h.2.1 es c d.0 d.1) (There h.1 es c d.0 d.1)
-        (runs_then laws p.data_start high return_high 4 2 v (There (following h.2.0) es both (top (data_places both) ∷ g.0) g.1) (There h.2.1 es c d.0 d.1)
-        (runs_then laws p.data_start high return_high 3 1 v (There h.2.0 es (65535 ∷ both) g.0 g.1) (There (following h.2.0) es both (top (data_places both) ∷ g.0) g.1) g.2 b) d.2) j)
-        (record { stands = h.3; loops = l; frames = frames; cells = fc.1.1; entries = fe; world = fits; starts = starts })
+        let b = passes laws p code place size high return_high fs world fits starts base h.loop_at h.skip.test 65535 es (start ∷ limit ∷ c) g.0 g.1 (λ z. absurd (omega arith)) h.skip.branch (omega arith) (omega arith) in
+        let d = drops_two (following h.skip.test) h.skip.jump_at start limit es c (top (data_places (start ∷ limit ∷ c)) ∷ g.0) g.1 h.skip.drops fe fc (omega arith) (omega arith) in
+        let j = jumps laws p code place size high return_high fs world fits starts base h.end_at h.skip.jump_at es c d.0 d.1 h.skip.jump (omega arith) (omega arith) in
+        comes laws p code place size v 7 h.end_at 12 now high return_high out (state w es c) base d.0 d.1 (omega arith) (omega arith) due
+        (runs_then laws p.data_start high return_high 6 1 v (There h.skip.jump_at es c d.0 d.1) (There h.end_at es c d.0 d.1)
+        (runs_then laws p.data_start high return_high 4 2 v (There (following h.skip.test) es both (top (data_places both) ∷ g.0) g.1) (There h.skip.jump_at es c d.0 d.1)
+        (runs_then laws p.data_start high return_high 3 1 v (There h.skip.test es (65535 ∷ both) g.0 g.1) (There (following h.skip.test) es both (top (data_places both) ∷ g.0) g.1) g.2 b) d.2) j)
+        (record { stands = h.onward; loops = l; frames = frames; cells = fc.1.1; entries = fe; world = fits; starts = starts })
     q_do_by false out body plus w u start limit es c h l n fe fc room back g =
         let v = There pc es (start ∷ limit ∷ c) data_above return_above in
         let both = start ∷ limit ∷ c in
-        let b = branches laws p code place size high return_high fs world fits starts base h.0 h.2.0 0 es (start ∷ limit ∷ c) g.0 g.1 refl h.2.3 (omega arith) (omega arith) in
-        comes_after 4 8 now v (There h.0 es both (top (data_places both) ∷ g.0) g.1) _
-        (runs_then laws p.data_start high return_high 3 1 v (There h.2.0 es (0 ∷ both) g.0 g.1) (There h.0 es both (top (data_places both) ∷ g.0) g.1) g.2 b)
-        (do_follows laws p code place size high return_high fs world fits starts base h.0 now (top (data_places both) ∷ g.0) g.1 frames due out body plus w u es both h.4 l n fe fc (omega arith) back)
+        let b = branches laws p code place size high return_high fs world fits starts base h.loop_at h.skip.test 0 es (start ∷ limit ∷ c) g.0 g.1 refl h.skip.branch (omega arith) (omega arith) in
+        comes_after 4 8 now v (There h.loop_at es both (top (data_places both) ∷ g.0) g.1) _
+        (runs_then laws p.data_start high return_high 3 1 v (There h.skip.test es (0 ∷ both) g.0 g.1) (There h.loop_at es both (top (data_places both) ∷ g.0) g.1) g.2 b)
+        (do_follows laws p code place size high return_high fs world fits starts base h.loop_at now (top (data_places both) ∷ g.0) g.1 frames due out body plus w u es both h.loop l n fe fc (omega arith) back)
 
     pub q_do_follows : (out : Option ℕ) (body : Nodes) (plus : Bool) (w u : List Work) (es : List Entry) (c : List ℕ) →
         Placed code place p out pc (ends_body w) (QDo body plus) (λ q. Stands code place p out q w) → Loops code place p out w →
@@ -160,4 +160,4 @@ module _ (laws : Laws) (p : SourceProgram) (code : List ℕ) (place : ℕ → �
     q_do_follows out body plus w u es [] h l n fe fc room back = tt
     q_do_follows out body plus w u es (x ∷ []) h l n fe fc room back = tt
     q_do_follows out body plus w u es (start ∷ limit ∷ c) h l n fe fc room back =
-        q_do_by (limit == start) out body plus w u start limit es c h l n fe fc (omega arith) back (compares_both pc h.2.0 start limit es c data_above return_above h.2.2 fe fc (omega arith) (omega arith))
+        q_do_by (limit == start) out body plus w u start limit es c h l n fe fc (omega arith) back (compares_both pc h.skip.test start limit es c data_above return_above h.skip.compares fe fc (omega arith) (omega arith))

@@ -280,7 +280,7 @@ module _ (laws : Laws) (p : SourceProgram) (code : List ℕ) (place : ℕ → �
         item_in_hand (Plain word) at h fit room back =
             subst (Follows laws p code place size (At at c) (word_price word c world + 1) then_now high return_high) (sym (token_step p word c es (here w es c) h.0)) (word_in_hand word at h.0 h.1 fit room back)
         item_in_hand (Call d) at h fit room back = call_in_hand d at h.0 h.1
-        item_in_hand (Child d address) at h fit room back = child_in_hand d address at h.0 h.1 h.2 h.3 h.4 room (omega arith)
+        item_in_hand (Child d address) at h fit room back = child_in_hand d address at h.next h.small h.number h.known h.call room (omega arith)
         item_in_hand (Text kind address characters) at h fit room back = absurd h
         item_in_hand (If first second) at h fit room back = absurd h
         item_in_hand (Until body) at h fit room back = absurd h

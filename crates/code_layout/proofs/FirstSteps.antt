@@ -90,24 +90,26 @@ module _ (laws : Laws) (p : SourceProgram) (code : List ℕ) (place : ℕ → �
     first_follows (IsChild d address after) w es c h l n fe fc fit room back =
         inl
         (child_follows laws p code place size high return_high pc now out fs world fits starts base data_above return_above frames due all (ends_body after)
-        d address h.0.0 after es c refl h.0.1 h.0.2 h.0.3 h.0.4 l n (omega (arith, h.1)) fe fc room (omega arith))
+        d address h.0.next after es c refl h.0.small h.0.number h.0.known h.0.call l n (omega (arith, h.1)) fe fc room (omega arith))
     first_follows (IsText kind address characters after) w es c h l n fe fc fit room back =
         inl
         (text_follows laws p code place size high return_high pc now out fs world fits starts base data_above return_above frames due (ends_body after) kind
-        address characters h.0.0 h.0.1 after es c refl h.0.2 h.0.3 h.0.4 h.0.5 h.0.6 l n (omega (arith, h.1)) fe fc room back)
+        address characters h.0.middle h.0.next after es c refl h.0.address_small h.0.characters_small h.0.address_stands h.0.characters_stand h.0.text l n (omega (arith, h.1)) fe fc room back)
     first_follows (IsIf first second after) w es c h l n fe fc fit room back = inl (if_follows first second after w es c h l fe fc (omega arith) (omega arith))
     first_follows (IsTrueEnd after) w es c h l n fe fc fit room back =
         inl (true_end_follows laws p code place size high return_high pc now out fs world fits starts base data_above return_above frames due after es c h l n fe fc (omega arith) (omega arith))
     first_follows (IsUntil body after) w es c h l n fe fc fit room back =
-        inl (flag_follows laws p code place size high return_high pc now out fs world fits starts base data_above return_above frames due h.0 (before body (UntilTest body ∷ after)) after w es c h.1
-        (stands_to code place p body out h.0 pc (UntilTest body ∷ after) h.2 h (omega (arith, h.4))) (loops_before code place p body out (UntilTest body ∷ after) l) h.3 l fe fc (omega arith) (omega arith))
+        inl (flag_follows laws p code place size high return_high pc now out fs world fits starts base data_above return_above frames due h.begin (before body (UntilTest body ∷ after)) after w es c h.branch
+        (stands_to code place p body out h.begin pc (UntilTest body ∷ after) h.body_stands h (omega (arith, h.few))) (loops_before code place p body out (UntilTest body ∷ after) l) h.after l fe fc (omega arith) (omega arith))
     first_follows (IsWhile test body after) w es c h l n fe fc fit room back =
-        inl (flag_follows laws p code place size high return_high pc now out fs world fits starts base data_above return_above frames due h.2 after (before body (Repeat test body ∷ after)) w es c h.3.branch
-        h.4 l (stands_to code place p body out (following pc) h.1 (Repeat test body ∷ after) h.3.body_stands (h.0, pc, h.2, h.3, h.4) (let few = h.3.few in omega (arith, few)))
+        let s = h.1 in
+        inl (flag_follows laws p code place size high return_high pc now out fs world fits starts base data_above return_above frames due s.next after (before body (Repeat test body ∷ after)) w es c s.branch
+        s.after l (stands_to code place p body out (following pc) h.0 (Repeat test body ∷ after) s.body_stands (pc, s) (let few = s.few in omega (arith, few)))
         (loops_before code place p body out (Repeat test body ∷ after) l) fe fc (omega arith) (omega arith))
     first_follows (IsRepeat test body after) w es c h l n fe fc fit room back =
-        inl (jump_follows laws p code place size high return_high pc now out fs world fits starts base data_above return_above frames due h.0 out (before test (WhileTest test body ∷ after)) es c h.3.jump
-        (stands_to code place p test out h.0 h.1 (WhileTest test body ∷ after) h.3.test_stands (h.0, pc, h.2, h.3, h.4) (let few = h.3.few in omega (arith, few)))
+        let s = h.1 in
+        inl (jump_follows laws p code place size high return_high pc now out fs world fits starts base data_above return_above frames due s.begin out (before test (WhileTest test body ∷ after)) es c s.jump
+        (stands_to code place p test out s.begin h.0 (WhileTest test body ∷ after) s.test_stands (pc, s) (let few = s.few in omega (arith, few)))
         (loops_before code place p test out (WhileTest test body ∷ after) l) fe fc (omega arith) (omega arith))
     first_follows (IsAgain body after) w es c h l n fe fc fit room back =
         inl (jump_follows laws p code place size high return_high pc now out fs world fits starts base data_above return_above frames due h.0 out (before body (BeginAgain body ∷ after)) es c h.1

@@ -31,7 +31,7 @@ use Rattle.code_layout.specs.Layout.{others_place, else_cells, loop_code, arm_co
 use Rattle.code_layout.specs.Built.{word_is_laid_out, text_is_laid_out, is_laid_out, token_is_laid_out}
 use Rattle.code_layout.proofs.Machine.{both}
 use Rattle.code_layout.proofs.Routines.{IsRoutine, IsAborter}
-use Rattle.code_layout.proofs.Work.{Returns, TokenStands, IsExecutor, PlainStands, ExecuteStands, TextStands, TurnStands, CallStands, LoopStands, SkipStands, OfStands, Placed, AllPlaced, ArmsPlaced}
+use Rattle.code_layout.proofs.Work.{Returns, TokenStands, IsExecutor, PlainStands, ExecuteStands, TextStands, TurnStands, CallStands, LoopStands, SkipStands, LastStands, OfStands, Placed, AllPlaced, ArmsPlaced}
 
 pub decode_jump : (a : ℕ) → a < 8192 → decoded (jump_to a) ≡ Jump a
 decode_jump a h = grind (arith, nat_tests)
@@ -315,7 +315,17 @@ module _ (code : List ℕ) where
         let c = cut at 8 do_cells (inner ++ after) last refl (omega (arith, n, end)) h in
         let d = cut (at + 8) (size false true body) inner after last e (omega (arith, n, end)) c.1 in
         let g = cut (at + 8 + size false true body) (turn_size plus) (turn_cells plus (at + 8) (out_place at body plus)) out_cells last (turn_size_is plus (at + 8) (out_place at body plus)) (omega (arith, n, end)) d.1 in
-        (at + 8, at + 8 + size false true body, drop_at, last, c.0, body_stands d.0 g.1.0, turn_stands plus (at + 8 + size false true body) (at + 8) drop_at out_cells last d.1 (omega (arith, n, end)) refl (omega (arith, n, end)), g.1, k)
+        record {
+          body_at = at + 8;
+          turn_at = at + 8 + size false true body;
+          out_at = drop_at;
+          next = last;
+          begins = c.0;
+          body = body_stands d.0 g.1.0;
+          turn = turn_stands plus (at + 8 + size false true body) (at + 8) drop_at out_cells last d.1 (omega (arith, n, end)) refl (omega (arith, n, end));
+          drops = g.1;
+          onward = k;
+        }
 
     -- OVER OVER = and what follows it, where ?DO leaves its loop out or not
     skip_stands : (at loop_at end_at last : ℕ) (more : List ℕ) → StandIn code at (q_do_cells loop_at end_at ++ more) last → loop_at ≡ at + 7 → loop_at < 8192 →
@@ -326,14 +336,14 @@ module _ (code : List ℕ) where
         let g = cut (at + 3 + 1) 2 (0x6103 ∷ 0x6103 ∷ []) (jump_to end_at ∷ more) last refl (omega (arith, e)) d in
         let j = onward (at + 3 + 1 + 2) (jump_to end_at) more last (omega (arith, e)) g.1 in
         let there : at + 3 + 1 + 2 + 1 ≡ at + 7 = omega arith in (
-          (
-            at + 3,
-            at + 3 + 1 + 2,
-            c.0,
-            holds (at + 3) (branch_to loop_at) (Branch loop_at) (0x6103 ∷ 0x6103 ∷ jump_to end_at ∷ more) last c.1 (decode_branch loop_at lt),
-            subst (λ x. StandIn code x (0x6103 ∷ 0x6103 ∷ []) (at + 3 + 1 + 2)) (sym (next_is (at + 3) (omega (arith, e)))) g.0,
-            holds (at + 3 + 1 + 2) (jump_to end_at) (Jump end_at) more last g.1 (decode_jump end_at lt'),
-          ),
+          record {
+            test = at + 3;
+            jump_at = at + 3 + 1 + 2;
+            compares = c.0;
+            branch = holds (at + 3) (branch_to loop_at) (Branch loop_at) (0x6103 ∷ 0x6103 ∷ jump_to end_at ∷ more) last c.1 (decode_branch loop_at lt);
+            drops = subst (λ x. StandIn code x (0x6103 ∷ 0x6103 ∷ []) (at + 3 + 1 + 2)) (sym (next_is (at + 3) (omega (arith, e)))) g.0;
+            jump = holds (at + 3 + 1 + 2) (jump_to end_at) (Jump end_at) more last g.1 (decode_jump end_at lt');
+          },
           subst (λ x. StandIn code x more last) there j,
         )
 
@@ -366,13 +376,13 @@ module _ (code : List ℕ) where
           let last = at + (length (number_cells address) + 1) in
           let fits = both (nat_lt d (length p.bodies)) (nat_lt address 0x8000) fit.0 in
           let c = cut at (length (number_cells address)) (number_cells address) (call_cell tail (place (Definition d)) ∷ []) last refl (omega (arith, n)) h in
-          let e : last ≡ next + 1 = omega arith in (
-            next,
-            (let e = fits.1 in grind (arith, nat_tests)),
-            c.0,
-            (let e = fits.0 in grind (arith, nat_tests)),
-            call_stands tail (Definition d) next K (subst (StandIn code next (call_cell tail (place (Definition d)) ∷ [])) e c.1) (omega (arith, n)) (λ g. subst K e (k g)),
-          )
+          let e : last ≡ next + 1 = omega arith in record {
+            next = next;
+            small = (let e = fits.1 in grind (arith, nat_tests));
+            number = c.0;
+            known = (let e = fits.0 in grind (arith, nat_tests));
+            call = call_stands tail (Definition d) next K (subst (StandIn code next (call_cell tail (place (Definition d)) ∷ [])) e c.1) (omega (arith, n)) (λ g. subst K e (k g));
+          }
       placed (Text kind address characters) tail in_do out out_at at K fit inner lt h n k =
           let middle = at + length (number_cells address) in
           let next = at + length (number_cells address) + length (number_cells characters) in
@@ -383,15 +393,15 @@ module _ (code : List ℕ) where
           let two = both executes (text_is_laid_out words kind) three.0 in
           let c = cut at (length (number_cells address)) (number_cells address) after last refl (omega (arith, n)) h in
           let d = cut middle (length (number_cells characters)) (number_cells characters) (text_cells place tail kind) last refl (omega (arith, n)) c.1 in
-          let e : last ≡ next + text_size kind = omega arith in (
-            middle,
-            next,
-            (let e = three.1 in grind (arith, nat_tests)),
-            (let e = all.1 in grind (arith, nat_tests)),
-            c.0,
-            d.0,
-            text_placed kind tail next K two.0 two.1 (subst (StandIn code next (text_cells place tail kind)) e d.1) (omega (arith, n)) (λ g. subst K e (k g)),
-          )
+          let e : last ≡ next + text_size kind = omega arith in record {
+            middle = middle;
+            next = next;
+            address_small = (let e = three.1 in grind (arith, nat_tests));
+            characters_small = (let e = all.1 in grind (arith, nat_tests));
+            address_stands = c.0;
+            characters_stand = d.0;
+            text = text_placed kind tail next K two.0 two.1 (subst (StandIn code next (text_cells place tail kind)) e d.1) (omega (arith, n)) (λ g. subst K e (k g));
+          }
       placed (If first Empty) tail in_do out out_at at K fit inner lt h n k =
           let target = else_place at tail first Empty in
           let last = at + node_size tail true (If first Empty) in
@@ -460,17 +470,17 @@ module _ (code : List ℕ) where
           cut (while_place at test) (size false true body) body_cells (jump_to at ∷ []) last
           (size_is body p.data_start place out_at (while_place at test) false true) (omega (arith, n))
           (onward (at + size false true test) (branch_to next) (body_cells ++ jump_to at ∷ []) last (omega (arith, n)) c.1) in
-          let e : last ≡ next = omega arith in (
-            test_end,
-            body_end,
-            next,
-            all_placed test false in_do out out_at at (λ x. x ≡ test_end) fits.0 inner lt c.0 (omega (arith, n)) (λ g. refl),
-            holds test_end (branch_to next) (Branch next) (body_cells ++ jump_to at ∷ []) last c.1 (decode_branch next (omega (arith, n))),
-            subst (λ x. AllPlaced code definitions p out x false body (λ y. y ≡ body_end)) (sym (next_is test_end (omega (arith, n))))
-                (all_placed body false in_do out out_at (while_place at test) (λ x. x ≡ body_end) fits.1 inner lt d.0 (omega (arith, n)) (λ g. refl)),
-            holds body_end (jump_to at) (Jump at) [] last d.1 (decode_jump at (omega (arith, n))),
-            subst K e (k refl),
-          )
+          let e : last ≡ next = omega arith in record {
+            test_end = test_end;
+            body_end = body_end;
+            next = next;
+            test = all_placed test false in_do out out_at at (λ x. x ≡ test_end) fits.0 inner lt c.0 (omega (arith, n)) (λ g. refl);
+            branch = holds test_end (branch_to next) (Branch next) (body_cells ++ jump_to at ∷ []) last c.1 (decode_branch next (omega (arith, n)));
+            body = subst (λ x. AllPlaced code definitions p out x false body (λ y. y ≡ body_end)) (sym (next_is test_end (omega (arith, n))))
+                (all_placed body false in_do out out_at (while_place at test) (λ x. x ≡ body_end) fits.1 inner lt d.0 (omega (arith, n)) (λ g. refl));
+            jump = holds body_end (jump_to at) (Jump at) [] last d.1 (decode_jump at (omega (arith, n)));
+            onward = subst K e (k refl);
+          }
       placed (Again body) tail in_do out out_at at K fit inner lt h n k =
           let end = at + size false true body in
           let c = cut at (size false true body) (cells_at out_at at false body) (jump_to at ∷ []) (at + (size false true body + 1)) (size_is body p.data_start place out_at at false true) (omega (arith, n)) h in (
@@ -479,7 +489,7 @@ module _ (code : List ℕ) where
             holds end (jump_to at) (Jump at) [] (at + (size false true body + 1)) c.1 (decode_jump at (omega (arith, n))),
           )
       placed (Do body plus) tail in_do out out_at at K fit inner lt h n k =
-          loop_stands (λ o q. AllPlaced code definitions p o q false body) body plus at (at + node_size tail true (Do body plus))
+          loop_stands (λ o q L. AllPlaced code definitions p o q false body L) body plus at (at + node_size tail true (Do body plus))
           (cells_at (out_place at body plus) (at + 8) false body) K (size_is body p.data_start place (out_place at body plus) (at + 8) false true) h refl n
           (λ stands drop.
           all_placed body false true (Some (out_place at body plus)) (out_place at body plus) (at + 8) (λ x. x ≡ at + 8 + size false true body)
@@ -489,17 +499,17 @@ module _ (code : List ℕ) where
           let end_at = out_place (at + 7) body plus + 4 in
           let body_code = cells_at (out_place (at + 7) body plus) (at + 7 + 8) false body in
           let e : last ≡ end_at = omega arith in
-          let s = skip_stands at (at + 7) end_at last (loop_code (at + 7) body plus body_code) h refl (omega (arith, n)) (omega (arith, n)) in (
-            at + 7,
-            end_at,
-            s.0,
-            subst K e (k refl),
-            loop_stands (λ o q. AllPlaced code definitions p o q false body) body plus (at + 7) last body_code K (size_is body p.data_start place (out_place (at + 7) body plus) (at + 7 + 8) false true) s.1 (omega arith) n
+          let s = skip_stands at (at + 7) end_at last (loop_code (at + 7) body plus body_code) h refl (omega (arith, n)) (omega (arith, n)) in record {
+            loop_at = at + 7;
+            end_at = end_at;
+            skip = s.0;
+            onward = subst K e (k refl);
+            loop = loop_stands (λ o q L. AllPlaced code definitions p o q false body L) body plus (at + 7) last body_code K (size_is body p.data_start place (out_place (at + 7) body plus) (at + 7 + 8) false true) s.1 (omega arith) n
                 (λ stands drop.
                 all_placed body false true (Some (out_place (at + 7) body plus)) (out_place (at + 7) body plus) (at + 7 + 8)
                 (λ x. x ≡ at + 7 + 8 + size false true body) (fit.1, fit.2) (λ t. refl) (omega (arith, n)) stands (omega (arith, n)) (λ g. refl))
-                (k refl),
-          )
+                (k refl);
+          }
       placed (Case arms rest) tail in_do out out_at at K fit inner lt h n k =
           let last = at + node_size tail true (Case arms rest) in
           let rest_at = at + arms_size tail arms in
@@ -512,10 +522,14 @@ module _ (code : List ℕ) where
           let c = cut at (arms_size tail arms) (arms_cells p.data_start place out_at at tail end_at arms) (rest_code ++ end_case_cells) last (arms_size_is arms p.data_start place out_at at tail end_at) (omega (arith, n)) h in
           let d = cut rest_at (size false true rest) rest_code end_case_cells last (size_is rest p.data_start place out_at rest_at false true) (omega (arith, n)) c.1 in
           arms_placed arms tail in_do out out_at at end_at K
-          (λ q.
-          (drop_at : ℕ) × (next : ℕ) × AllPlaced code definitions p out q false rest (λ x. x ≡ drop_at) × StandIn code drop_at end_case_cells next
-          × K next) (items.0, leaves.0) inner lt c.0 (omega (arith, n)) (omega (arith, n)) (subst K e (k refl))
-          (drop_at, last, all_placed rest false in_do out out_at rest_at (λ x. x ≡ drop_at) (items.1, leaves.1) inner lt d.0 (omega (arith, n)) (λ g. refl), d.1, k refl)
+          (λ q. LastStands code definitions p (λ L. AllPlaced code definitions p out q false rest L) K) (items.0, leaves.0) inner lt c.0 (omega (arith, n)) (omega (arith, n)) (subst K e (k refl))
+          (record {
+            drop_at = drop_at;
+            next = last;
+            rest = all_placed rest false in_do out out_at rest_at (λ x. x ≡ drop_at) (items.1, leaves.1) inner lt d.0 (omega (arith, n)) (λ g. refl);
+            drops = d.1;
+            onward = k refl;
+          })
       placed Leave tail in_do out out_at at K fit inner lt h n k = (out_at, inner fit.2, holds at (jump_to out_at) (Jump out_at) [] (at + 1) h (decode_jump out_at lt))
       placed Exit tail in_do out out_at at K fit inner lt h n k = holds at return_cell (decoded 0x700C) [] (at + 1) h refl
 
@@ -564,16 +578,16 @@ module _ (code : List ℕ) where
           let o = of_stands of_at body_at other_at (at + own) (body_code ++ cell_if reached (jump_to end_at)) c.1 refl (omega (arith, n)) (omega (arith, n)) in
           let d = cut body_at (size tail true body) body_code (cell_if reached (jump_to end_at)) (at + own) (size_is body p.data_start place out_at body_at tail true) (omega (arith, n)) o.1 in
           let e : at + own ≡ other_at = omega arith in
-          let e' : last ≡ other_at + arms_size tail others = omega arith in (
-            of_at,
-            body_at,
-            other_at,
-            all_placed tests false in_do out out_at at (λ x. x ≡ of_at) fits.0 inner lt c.0 (omega (arith, n)) (λ g. refl),
-            o.0,
-            all_placed body tail in_do out out_at body_at (λ x. (end_at : ℕ) × HoldsInstruction code x (Jump end_at) × K end_at) fits.1 inner lt d.0 (omega (arith, n))
-                (λ g. (end_at, holds_if reached (body_at + size tail true body) (jump_to end_at) (Jump end_at) (at + own) g d.1 (decode_jump end_at low), k)),
-            arms_placed others tail in_do out out_at other_at end_at K L fits.2 inner lt (subst (StandIn code other_at others_code) e' (subst (λ x. StandIn code x others_code last) e a.1)) (omega (arith, n)) low k (subst L e' l),
-          )
+          let e' : last ≡ other_at + arms_size tail others = omega arith in record {
+            of_at = of_at;
+            body_at = body_at;
+            other_at = other_at;
+            tests = all_placed tests false in_do out out_at at (λ x. x ≡ of_at) fits.0 inner lt c.0 (omega (arith, n)) (λ g. refl);
+            chooses = o.0;
+            body = all_placed body tail in_do out out_at body_at (λ x. (end_at : ℕ) × HoldsInstruction code x (Jump end_at) × K end_at) fits.1 inner lt d.0 (omega (arith, n))
+                (λ g. (end_at, holds_if reached (body_at + size tail true body) (jump_to end_at) (Jump end_at) (at + own) g d.1 (decode_jump end_at low), k));
+            others = arms_placed others tail in_do out out_at other_at end_at K L fits.2 inner lt (subst (StandIn code other_at others_code) e' (subst (λ x. StandIn code x others_code last) e a.1)) (omega (arith, n)) low k (subst L e' l);
+          }
 
     -- ---- tokens
 
@@ -604,13 +618,13 @@ module _ (code : List ℕ) where
         let next = at + length (number_cells address) in
         let last = at + (length (number_cells address) + 1) in
         let f = both (nat_lt d (length p.bodies)) (nat_lt address 0x8000) fit in
-        let c = cut at (length (number_cells address)) (number_cells address) (jump_to target ∷ []) last refl (omega (arith, n)) h in (
-          next,
-          (let e = f.1 in grind (arith, nat_tests)),
-          c.0,
-          (let e = f.0 in grind (arith, nat_tests)),
-          holds next (jump_to target) (Jump target) [] last c.1 (decode_jump target (low (Definition d))),
-        )
+        let c = cut at (length (number_cells address)) (number_cells address) (jump_to target ∷ []) last refl (omega (arith, n)) h in record {
+          next = next;
+          small = (let e = f.1 in grind (arith, nat_tests));
+          number = c.0;
+          known = (let e = f.0 in grind (arith, nat_tests));
+          call = holds next (jump_to target) (Jump target) [] last c.1 (decode_jump target (low (Definition d)));
+        }
     token_stands (Text kind address characters) at fit h n = absurd (let e : false ≡ true = fit in cc)
     token_stands (If first second) at fit h n = absurd (let e : false ≡ true = fit in cc)
     token_stands (Until body) at fit h n = absurd (let e : false ≡ true = fit in cc)

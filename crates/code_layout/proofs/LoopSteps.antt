@@ -112,8 +112,8 @@ module _ (laws : Laws) (p : SourceProgram) (code : List ℕ) (place : ℕ → �
   loop_end : (out : Option ℕ) (out_at : ℕ) (w : List Work) → out ≡ Some out_at → Loops code place p out w → LoopEnd out_at (after_loop w)
   loop_end out out_at [] e l = let f : None ≡ Some out_at = sym l ∙ e in cc
   loop_end out out_at (Turn body plus ∷ w) e l =
-      let same : l.0 ≡ out_at = let f : Some l.0 ≡ Some out_at = sym l.3 ∙ e in cc in
-      record { outer = l.1; next = l.2; drop_stands = subst (λ o. StandIn code o out_cells l.2) same l.4; stands = l.5; loops = l.6 }
+      let same : l.out_at ≡ out_at = let f : Some l.out_at ≡ Some out_at = sym l.is ∙ e in cc in
+      record { outer = l.outer; next = l.next; drop_stands = subst (λ o. StandIn code o out_cells l.next) same l.drops; stands = l.after; loops = l.loops }
   loop_end out out_at (Todo node ∷ w) e l = loop_end out out_at w e l
   loop_end out out_at (TrueEnd ∷ w) e l = loop_end out out_at w e l
   loop_end out out_at (UntilTest body ∷ w) e l = loop_end out out_at w e l
@@ -135,15 +135,15 @@ module _ (laws : Laws) (p : SourceProgram) (code : List ℕ) (place : ℕ → �
     do_follows out body plus w u es [] h l n fe fc room back = tt
     do_follows out body plus w u es (x ∷ []) h l n fe fc room back = tt
     do_follows out body plus w u es (start ∷ limit ∷ c) h l n fe fc room back =
-        let g = enters pc h.0 start limit es c data_above return_above h.4 fe fc (omega arith) back in
-        let mark : Stands code place p (Some h.2) h.1 (Turn body plus ∷ w) = (h.2, h.0, refl, h.5, h.6, omega arith) in
-        let ends : Loops code place p (Some h.2) (Turn body plus ∷ w) = (h.2, out, h.3, refl, h.7, h.8, l) in
-        comes laws p code place size (at pc es (start ∷ limit ∷ c) data_above return_above) 8 h.0 8 now high return_high (Some h.2)
+        let g = enters pc h.body_at start limit es c data_above return_above h.begins fe fc (omega arith) back in
+        let mark : Stands code place p (Some h.out_at) h.turn_at (Turn body plus ∷ w) = record { out_at = h.out_at; body_at = h.body_at; is = refl; body_stands = h.body; turn = h.turn; few = omega arith } in
+        let ends : Loops code place p (Some h.out_at) (Turn body plus ∷ w) = record { out_at = h.out_at; outer = out; next = h.next; is = refl; drops = h.drops; after = h.onward; loops = l } in
+        comes laws p code place size (at pc es (start ∷ limit ∷ c) data_above return_above) 8 h.body_at 8 now high return_high (Some h.out_at)
         (with_cells (before body (Turn body plus ∷ w)) (Loop limit start ∷ es) c) base g.0 g.1 (omega arith) (omega arith) due
-        (subst (λ x. Runs p.data_start high return_high 8 (at pc es (start ∷ limit ∷ c) data_above return_above) (at h.0 (Cell x ∷ Cell limit ∷ es) c g.0 g.1)) (begun start limit fc.0 fc.1.0) g.2)
+        (subst (λ x. Runs p.data_start high return_high 8 (at pc es (start ∷ limit ∷ c) data_above return_above) (at h.body_at (Cell x ∷ Cell limit ∷ es) c g.0 g.1)) (begun start limit fc.0 fc.1.0) g.2)
         (record {
-          stands = stands_to code place p body (Some h.2) h.0 h.1 (Turn body plus ∷ w) h.5 mark (omega arith);
-          loops = loops_before code place p body (Some h.2) (Turn body plus ∷ w) ends;
+          stands = stands_to code place p body (Some h.out_at) h.body_at h.turn_at (Turn body plus ∷ w) h.body mark (omega arith);
+          loops = loops_before code place p body (Some h.out_at) (Turn body plus ∷ w) ends;
           frames = frames;
           cells = fc.1.1;
           entries = (fc.1.0, fc.0, fe);
@@ -196,13 +196,13 @@ module _ (laws : Laws) (p : SourceProgram) (code : List ℕ) (place : ℕ → �
       -- the body is done again
       again : (plus : Bool) (price count x step : ℕ) (c' : List ℕ) (above above' : List (Option ℕ)) → 1 ≤ count → count ≤ price →
           x ≡ difference_of (sum_of index step) limit → (h : Stands code place p out pc (Turn body plus ∷ w)) → Loops code place p out (Turn body plus ∷ w) →
-          Runs p.data_start high return_high count (There c') (at h.1 (two_cells x) c above above') →
+          Runs p.data_start high return_high count (There c') (at h.body_at (two_cells x) c above above') →
           Comes laws p code place size (There c') price now high return_high (with_cells (before body (Turn body plus ∷ w)) (Loop limit (sum_of index step) ∷ es) c)
       again plus price count x step c' above above' some cheap e h l runs =
-          comes laws p code place size (There c') count h.1 price now high return_high out (with_cells (before body (Turn body plus ∷ w)) (Loop limit (sum_of index step) ∷ es) c) base above above' some cheap due
-          (subst (λ y. Runs p.data_start high return_high count (There c') (at h.1 (two_cells y) c above above')) e runs)
+          comes laws p code place size (There c') count h.body_at price now high return_high out (with_cells (before body (Turn body plus ∷ w)) (Loop limit (sum_of index step) ∷ es) c) base above above' some cheap due
+          (subst (λ y. Runs p.data_start high return_high count (There c') (at h.body_at (two_cells y) c above above')) e runs)
           (record {
-            stands = stands_to code place p body out h.1 pc (Turn body plus ∷ w) h.3 h (omega (arith, h.5));
+            stands = stands_to code place p body out h.body_at pc (Turn body plus ∷ w) h.body_stands h (let few = h.few in omega (arith, few));
             loops = loops_before code place p body out (Turn body plus ∷ w) l;
             frames = frames;
             cells = fc;
@@ -215,21 +215,21 @@ module _ (laws : Laws) (p : SourceProgram) (code : List ℕ) (place : ℕ → �
       one_over : Stands code place p out pc (Turn body false ∷ w) → Loops code place p out (Turn body false ∷ w) → length c + 2 ≤ high → difference ≡ 65535 → Turned c 12 false 1 true
       one_over h l room last =
           let sum = sum_of (difference_of index limit) 1 in
-          let a = adds_one pc h.4.0 difference limit es c data_above return_above h.4.1 small_entries fc room back in
-          let b = branches h.0 h.4.0 sum (two_cells sum) c a.0 a.1 (omega (arith, last)) h.4.2 (omega arith) back in
-          over 12 6 h.0 sum c (top (data_places c) ∷ a.0) a.1 (omega arith) (omega arith) (omega arith) (omega arith) (loop_end out h.0 (Turn body false ∷ w) h.2 l)
-          (runs_then laws p.data_start high return_high 5 1 (There c) (at h.4.0 (two_cells sum) (sum ∷ c) a.0 a.1) (at h.0 (two_cells sum) c (top (data_places c) ∷ a.0) a.1) a.2 b)
+          let a = adds_one pc h.turn.0 difference limit es c data_above return_above h.turn.1 small_entries fc room back in
+          let b = branches h.out_at h.turn.0 sum (two_cells sum) c a.0 a.1 (omega (arith, last)) h.turn.2 (omega arith) back in
+          over 12 6 h.out_at sum c (top (data_places c) ∷ a.0) a.1 (omega arith) (omega arith) (omega arith) (omega arith) (loop_end out h.out_at (Turn body false ∷ w) h.is l)
+          (runs_then laws p.data_start high return_high 5 1 (There c) (at h.turn.0 (two_cells sum) (sum ∷ c) a.0 a.1) (at h.out_at (two_cells sum) c (top (data_places c) ∷ a.0) a.1) a.2 b)
 
       one_again : Stands code place p out pc (Turn body false ∷ w) → Loops code place p out (Turn body false ∷ w) → length c + 2 ≤ high → difference ≢ 65535 → Turned c 12 false 1 false
       one_again h l room other =
           let sum = sum_of (difference_of index limit) 1 in
           let small = difference_small limit index in
-          let a = adds_one pc h.4.0 difference limit es c data_above return_above h.4.1 small_entries fc room back in
-          let b = passes h.0 h.4.0 sum (two_cells sum) c a.0 a.1 (λ z. other (omega arith)) h.4.2 (omega arith) back in
-          let j = jumps h.1 (following h.4.0) (two_cells sum) c (top (data_places c) ∷ a.0) a.1 h.4.3 (omega arith) back in
+          let a = adds_one pc h.turn.0 difference limit es c data_above return_above h.turn.1 small_entries fc room back in
+          let b = passes h.out_at h.turn.0 sum (two_cells sum) c a.0 a.1 (λ z. other (omega arith)) h.turn.2 (omega arith) back in
+          let j = jumps h.body_at (following h.turn.0) (two_cells sum) c (top (data_places c) ∷ a.0) a.1 h.turn.3 (omega arith) back in
           again false 12 7 sum 1 c (top (data_places c) ∷ a.0) a.1 (omega arith) (omega arith) (next_difference index limit 1 fe.1 fe.0 (omega arith)) h l
-          (runs_then laws p.data_start high return_high 6 1 (There c) (at (following h.4.0) (two_cells sum) c (top (data_places c) ∷ a.0) a.1) (at h.1 (two_cells sum) c (top (data_places c) ∷ a.0) a.1)
-          (runs_then laws p.data_start high return_high 5 1 (There c) (at h.4.0 (two_cells sum) (sum ∷ c) a.0 a.1) (at (following h.4.0) (two_cells sum) c (top (data_places c) ∷ a.0) a.1) a.2 b) j)
+          (runs_then laws p.data_start high return_high 6 1 (There c) (at (following h.turn.0) (two_cells sum) c (top (data_places c) ∷ a.0) a.1) (at h.body_at (two_cells sum) c (top (data_places c) ∷ a.0) a.1)
+          (runs_then laws p.data_start high return_high 5 1 (There c) (at h.turn.0 (two_cells sum) (sum ∷ c) a.0 a.1) (at (following h.turn.0) (two_cells sum) c (top (data_places c) ∷ a.0) a.1) a.2 b) j)
 
       one_turned : Stands code place p out pc (Turn body false ∷ w) → Loops code place p out (Turn body false ∷ w) → length c + 2 ≤ high →
           Follows laws p code place size (There c) 12 now high return_high (turned 1 body false w (Loop limit index ∷ es) (with_cells u (Loop limit index ∷ es) c))
@@ -242,19 +242,19 @@ module _ (laws : Laws) (p : SourceProgram) (code : List ℕ) (place : ℕ → �
           Turned (step ∷ c) 24 true step crossed
       step_followed step true small e h l room =
           let sum = sum_of step (difference_of index limit) in
-          let a = adds_step pc h.4.0 difference limit step es c data_above return_above h.4.1 small_entries (small, fc) room back in
-          let a' = subst (λ b. Runs p.data_start high return_high 17 (There (step ∷ c)) (at h.4.0 (two_cells sum) (flag b ∷ c) a.0 a.1)) e a.2 in
-          let b = passes h.1 h.4.0 65535 (two_cells sum) c a.0 a.1 (λ z. absurd (omega arith)) h.4.2 (omega arith) back in
-          let b' = subst (λ q. Runs p.data_start high return_high 1 (at h.4.0 (two_cells sum) (65535 ∷ c) a.0 a.1) (at q (two_cells sum) c (top (data_places c) ∷ a.0) a.1)) h.4.3 b in
-          over 24 18 h.0 sum (step ∷ c) (top (data_places c) ∷ a.0) a.1 (omega arith) (omega arith) (mod-lt (step + difference) (omega arith)) (omega arith) (loop_end out h.0 (Turn body true ∷ w) h.2 l)
-          (runs_then laws p.data_start high return_high 17 1 (There (step ∷ c)) (at h.4.0 (two_cells sum) (65535 ∷ c) a.0 a.1) (at h.0 (two_cells sum) c (top (data_places c) ∷ a.0) a.1) a' b')
+          let a = adds_step pc h.turn.0 difference limit step es c data_above return_above h.turn.1 small_entries (small, fc) room back in
+          let a' = subst (λ b. Runs p.data_start high return_high 17 (There (step ∷ c)) (at h.turn.0 (two_cells sum) (flag b ∷ c) a.0 a.1)) e a.2 in
+          let b = passes h.body_at h.turn.0 65535 (two_cells sum) c a.0 a.1 (λ z. absurd (omega arith)) h.turn.2 (omega arith) back in
+          let b' = subst (λ q. Runs p.data_start high return_high 1 (at h.turn.0 (two_cells sum) (65535 ∷ c) a.0 a.1) (at q (two_cells sum) c (top (data_places c) ∷ a.0) a.1)) h.turn.3 b in
+          over 24 18 h.out_at sum (step ∷ c) (top (data_places c) ∷ a.0) a.1 (omega arith) (omega arith) (mod-lt (step + difference) (omega arith)) (omega arith) (loop_end out h.out_at (Turn body true ∷ w) h.is l)
+          (runs_then laws p.data_start high return_high 17 1 (There (step ∷ c)) (at h.turn.0 (two_cells sum) (65535 ∷ c) a.0 a.1) (at h.out_at (two_cells sum) c (top (data_places c) ∷ a.0) a.1) a' b')
       step_followed step false small e h l room =
           let sum = sum_of step (difference_of index limit) in
-          let a = adds_step pc h.4.0 difference limit step es c data_above return_above h.4.1 small_entries (small, fc) room back in
-          let a' = subst (λ b. Runs p.data_start high return_high 17 (There (step ∷ c)) (at h.4.0 (two_cells sum) (flag b ∷ c) a.0 a.1)) e a.2 in
-          let b = branches h.1 h.4.0 0 (two_cells sum) c a.0 a.1 refl h.4.2 (omega arith) back in
+          let a = adds_step pc h.turn.0 difference limit step es c data_above return_above h.turn.1 small_entries (small, fc) room back in
+          let a' = subst (λ b. Runs p.data_start high return_high 17 (There (step ∷ c)) (at h.turn.0 (two_cells sum) (flag b ∷ c) a.0 a.1)) e a.2 in
+          let b = branches h.body_at h.turn.0 0 (two_cells sum) c a.0 a.1 refl h.turn.2 (omega arith) back in
           again true 24 18 sum step (step ∷ c) (top (data_places c) ∷ a.0) a.1 (omega arith) (omega arith) (sum_turned step difference ∙ next_difference index limit step fe.1 fe.0 small) h l
-          (runs_then laws p.data_start high return_high 17 1 (There (step ∷ c)) (at h.4.0 (two_cells sum) (0 ∷ c) a.0 a.1) (at h.1 (two_cells sum) c (top (data_places c) ∷ a.0) a.1) a' b)
+          (runs_then laws p.data_start high return_high 17 1 (There (step ∷ c)) (at h.turn.0 (two_cells sum) (0 ∷ c) a.0 a.1) (at h.body_at (two_cells sum) c (top (data_places c) ∷ a.0) a.1) a' b)
 
       step_turned : (step : ℕ) → step < 65536 → Stands code place p out pc (Turn body true ∷ w) → Loops code place p out (Turn body true ∷ w) → length c + 4 ≤ high →
           Follows laws p code place size (There (step ∷ c)) 24 now high return_high (turned step body true w (Loop limit index ∷ es) (with_cells u (Loop limit index ∷ es) c))

@@ -70,20 +70,74 @@ module _ (code : List ℕ) (place : ℕ → ℕ) (p : SourceProgram) where
   CallStands false pc target K = HoldsInstruction code pc (CallTo target) × K
 
   -- a DO loop stands at a place, by where its body stands
-  abbrev pub LoopStands : (Option ℕ → ℕ → (ℕ → Type 0) → Type 0) → Bool → ℕ → (ℕ → Type 0) → Type 0
-  LoopStands BodyStands plus pc K =
-      (body_at : ℕ) × (turn_at : ℕ) × (out_at : ℕ) × (next : ℕ) × StandIn code pc do_cells body_at × BodyStands (Some out_at) body_at (λ e. e ≡ turn_at)
-      × TurnStands plus turn_at body_at out_at × StandIn code out_at out_cells next × K next
+  pub record LoopStands (BodyStands : Option ℕ → ℕ → (ℕ → Type 0) → Type 0) (plus : Bool) (pc : ℕ) (K : ℕ → Type 0) : Type 0 where
+    pub body_at : ℕ
+    pub turn_at : ℕ
+    pub out_at : ℕ
+    pub next : ℕ
+    pub begins : StandIn code pc do_cells body_at
+    pub body : BodyStands (Some out_at) body_at (λ e. e ≡ turn_at)
+    pub turn : TurnStands plus turn_at body_at out_at
+    pub drops : StandIn code out_at out_cells next
+    pub onward : K next
 
   -- what ?DO does before its loop: the test, and the way around the loop
-  abbrev pub SkipStands : ℕ → ℕ → ℕ → Type 0
-  SkipStands pc loop_at end_at =
-      (test : ℕ) × (jump_at : ℕ) × StandIn code pc (0x6181 ∷ 0x6181 ∷ 0x6703 ∷ []) test × HoldsInstruction code test (Branch loop_at)
-      × StandIn code (following test) (0x6103 ∷ 0x6103 ∷ []) jump_at × HoldsInstruction code jump_at (Jump end_at)
+  pub record SkipStands (pc loop_at end_at : ℕ) : Type 0 where
+    pub test : ℕ
+    pub jump_at : ℕ
+    pub compares : StandIn code pc (0x6181 ∷ 0x6181 ∷ 0x6703 ∷ []) test
+    pub branch : HoldsInstruction code test (Branch loop_at)
+    pub drops : StandIn code (following test) (0x6103 ∷ 0x6103 ∷ []) jump_at
+    pub jump : HoldsInstruction code jump_at (Jump end_at)
+
+  -- ?DO stands at a place, by where the body of its loop stands
+  pub record MayLoopStands (BodyStands : Option ℕ → ℕ → (ℕ → Type 0) → Type 0) (plus : Bool) (pc : ℕ) (K : ℕ → Type 0) : Type 0 where
+    pub loop_at : ℕ
+    pub end_at : ℕ
+    pub skip : SkipStands pc loop_at end_at
+    pub onward : K end_at
+    pub loop : LoopStands BodyStands plus loop_at K
 
   -- OF stands at a place, with those of its body and of the other arms
   abbrev pub OfStands : ℕ → ℕ → ℕ → Type 0
   OfStands pc body_at other_at = (test : ℕ) × StandIn code pc (0x6181 ∷ 0x6703 ∷ []) test × HoldsInstruction code test (Branch other_at) × StandIn code (following test) (0x6103 ∷ []) body_at
+
+  -- BEGIN test WHILE body REPEAT stands at a place, by where its parts stand
+  pub record BeginStands (TestStands : (ℕ → Type 0) → Type 0) (BodyStands : ℕ → (ℕ → Type 0) → Type 0) (pc : ℕ) (K : ℕ → Type 0) : Type 0 where
+    pub test_end : ℕ
+    pub body_end : ℕ
+    pub next : ℕ
+    pub test : TestStands (λ e. e ≡ test_end)
+    pub branch : HoldsInstruction code test_end (Branch next)
+    pub body : BodyStands (following test_end) (λ e. e ≡ body_end)
+    pub jump : HoldsInstruction code body_end (Jump pc)
+    pub onward : K next
+
+  -- an arm of a case, by where its parts and the other arms stand
+  pub record ArmStands (TestsStand : (ℕ → Type 0) → Type 0) (BodyStands OthersStand : ℕ → Type 0) : Type 0 where
+    pub of_at : ℕ
+    pub body_at : ℕ
+    pub other_at : ℕ
+    pub tests : TestsStand (λ e. e ≡ of_at)
+    pub chooses : OfStands of_at body_at other_at
+    pub body : BodyStands body_at
+    pub others : OthersStand other_at
+
+  -- the last items of a case, and ENDCASE
+  pub record LastStands (RestStands : (ℕ → Type 0) → Type 0) (K : ℕ → Type 0) : Type 0 where
+    pub drop_at : ℕ
+    pub next : ℕ
+    pub rest : RestStands (λ e. e ≡ drop_at)
+    pub drops : StandIn code drop_at end_case_cells next
+    pub onward : K next
+
+  -- a child: its address, and the call of its definition
+  pub record ChildStands (tail : Bool) (pc d address : ℕ) (K : ℕ → Type 0) : Type 0 where
+    pub next : ℕ
+    pub small : address < 32768
+    pub number : StandIn code pc (number_cells address) next
+    pub known : d < length p.bodies
+    pub call : CallStands tail next (place d) (K (following next))
 
   -- a word by its own cells, or by the call of its routine, and K holds of the place where it leads
   abbrev pub PlainStands : Bool → ℕ → Word → (ℕ → Type 0) → Type 0
@@ -98,7 +152,7 @@ module _ (code : List ℕ) (place : ℕ → ℕ) (p : SourceProgram) where
   TokenStands (Literal value) at = (next : ℕ) × (value < 65536) × StandIn code at (number_cells value) next × Returns next
   TokenStands (Plain word) at =
       (may_be_token (Plain word) ≡ true) × (((next : ℕ) × (stands_plain word ≡ true) × StandIn code at (cells_from p.data_start word) next × Returns next) ⊎ IsRoutine p.data_start code word at)
-  TokenStands (Child d address) at = (next : ℕ) × (address < 32768) × StandIn code at (number_cells address) next × (d < length p.bodies) × HoldsInstruction code next (Jump (place d))
+  TokenStands (Child d address) at = ChildStands true at d address (λ _. Unit {0})
   TokenStands node at = ⊥
 
   -- EXECUTE has come to the code of a token, over the same return places
@@ -128,6 +182,16 @@ module _ (code : List ℕ) (place : ℕ → ℕ) (p : SourceProgram) where
   TextStands tail pc text.Print K = (at : ℕ) × CallStands tail pc at (K (following pc)) × IsRoutine p.data_start code TypeOut at
   TextStands tail pc text.Abort K = (at : ℕ) × CallStands tail pc at (K (following pc)) × IsAborter p.data_start code at
 
+  -- a text: its address and its length, and what follows them
+  pub record TextItemStands (tail : Bool) (pc : ℕ) (kind : TextKind) (address characters : ℕ) (K : ℕ → Type 0) : Type 0 where
+    pub middle : ℕ
+    pub next : ℕ
+    pub address_small : address < 32768
+    pub characters_small : characters < 32768
+    pub address_stands : StandIn code pc (number_cells address) middle
+    pub characters_stand : StandIn code middle (number_cells characters) next
+    pub text : TextStands tail next kind K
+
   call_more : (tail : Bool) (pc target : ℕ) (K K' : Type 0) → (K → K') → CallStands tail pc target K → CallStands tail pc target K'
   call_more true pc target K K' f h = h
   call_more false pc target K K' f h = (h.0, f h.1)
@@ -141,27 +205,39 @@ module _ (code : List ℕ) (place : ℕ → ℕ) (p : SourceProgram) where
   text_more tail pc text.Print K K' f h = (h.0, call_more tail pc h.0 (K (following pc)) (K' (following pc)) (f (following pc)) h.1, h.2)
   text_more tail pc text.Abort K K' f h = (h.0, call_more tail pc h.0 (K (following pc)) (K' (following pc)) (f (following pc)) h.1, h.2)
 
+  loop_more : (B : Option ℕ → ℕ → (ℕ → Type 0) → Type 0) (plus : Bool) (pc : ℕ) (K K' : ℕ → Type 0) → ((q : ℕ) → K q → K' q) → LoopStands B plus pc K → LoopStands B plus pc K'
+  loop_more B plus pc K K' f h = record {
+    body_at = h.body_at;
+    turn_at = h.turn_at;
+    out_at = h.out_at;
+    next = h.next;
+    begins = h.begins;
+    body = h.body;
+    turn = h.turn;
+    drops = h.drops;
+    onward = f h.next h.onward;
+  }
+
+  last_more : (R : (ℕ → Type 0) → Type 0) (K K' : ℕ → Type 0) → ((q : ℕ) → K q → K' q) → LastStands R K → LastStands R K'
+  last_more R K K' f h = record { drop_at = h.drop_at; next = h.next; rest = h.rest; drops = h.drops; onward = f h.next h.onward }
+
   -- an item stands at a place, in tail position or not, in a loop that is dropped at `out`, and K holds of the place where it leads
   abbrev mutual
     pub Placed : Option ℕ → ℕ → Bool → Node → (ℕ → Type 0) → Type 0
     Placed out pc tail (Literal value) K = (next : ℕ) × (value < 65536) × StandIn code pc (number_cells value) next × K next
     Placed out pc tail (Plain word) K = PlainStands tail pc word K ⊎ ExecuteStands tail pc word K
     Placed out pc tail (Call d) K = (d < length p.bodies) × CallStands tail pc (place d) (K (following pc))
-    Placed out pc tail (Child d address) K = (next : ℕ) × (address < 32768) × StandIn code pc (number_cells address) next × (d < length p.bodies) × CallStands tail next (place d) (K (following next))
-    Placed out pc tail (Text kind address characters) K =
-        (middle : ℕ) × (next : ℕ) × (address < 32768) × (characters < 32768) × StandIn code pc (number_cells address) middle × StandIn code middle (number_cells characters) next × TextStands tail next kind K
+    Placed out pc tail (Child d address) K = ChildStands tail pc d address K
+    Placed out pc tail (Text kind address characters) K = TextItemStands tail pc kind address characters K
     Placed out pc tail (If first Empty) K = (next : ℕ) × HoldsInstruction code pc (Branch next) × AllPlaced out (following pc) tail first K × K next
     Placed out pc tail (If first (Then node rest)) K =
         (else_at : ℕ) × HoldsInstruction code pc (Branch else_at) × AllPlaced out (following pc) tail first (λ e. (next : ℕ) × HoldsInstruction code e (Jump next) × K next) × AllPlaced out else_at tail (Then node rest) K
     Placed out pc tail (Until body) K = (end : ℕ) × AllPlaced out pc false body (λ e. e ≡ end) × HoldsInstruction code end (Branch pc) × K (following end)
-    Placed out pc tail (While test body) K =
-        (test_end : ℕ) × (body_end : ℕ) × (next : ℕ) × AllPlaced out pc false test (λ e. e ≡ test_end) × HoldsInstruction code test_end (Branch next)
-        × AllPlaced out (following test_end) false body (λ e. e ≡ body_end) × HoldsInstruction code body_end (Jump pc) × K next
+    Placed out pc tail (While test body) K = BeginStands (λ L. AllPlaced out pc false test L) (λ q L. AllPlaced out q false body L) pc K
     Placed out pc tail (Again body) K = (end : ℕ) × AllPlaced out pc false body (λ e. e ≡ end) × HoldsInstruction code end (Jump pc)
-    Placed out pc tail (Do body plus) K = LoopStands (λ out q. AllPlaced out q false body) plus pc K
-    Placed out pc tail (QDo body plus) K = (loop_at : ℕ) × (end_at : ℕ) × SkipStands pc loop_at end_at × K end_at × LoopStands (λ out q. AllPlaced out q false body) plus loop_at K
-    Placed out pc tail (Case arms rest) K =
-        ArmsPlaced out pc tail arms K (λ q. (drop_at : ℕ) × (next : ℕ) × AllPlaced out q false rest (λ e. e ≡ drop_at) × StandIn code drop_at end_case_cells next × K next)
+    Placed out pc tail (Do body plus) K = LoopStands (λ out q L. AllPlaced out q false body L) plus pc K
+    Placed out pc tail (QDo body plus) K = MayLoopStands (λ out q L. AllPlaced out q false body L) plus pc K
+    Placed out pc tail (Case arms rest) K = ArmsPlaced out pc tail arms K (λ q. LastStands (λ L. AllPlaced out q false rest L) K)
     Placed out pc tail Leave K = (out_at : ℕ) × (out ≡ Some out_at) × HoldsInstruction code pc (Jump out_at)
     Placed out pc tail Exit K = Returns pc
 
@@ -173,8 +249,8 @@ module _ (code : List ℕ) (place : ℕ → ℕ) (p : SourceProgram) where
     pub ArmsPlaced : Option ℕ → ℕ → Bool → Arms → (ℕ → Type 0) → (ℕ → Type 0) → Type 0
     ArmsPlaced out pc tail NoArm K L = L pc
     ArmsPlaced out pc tail (Arm tests body others) K L =
-        (of_at : ℕ) × (body_at : ℕ) × (other_at : ℕ) × AllPlaced out pc false tests (λ e. e ≡ of_at) × OfStands of_at body_at other_at × AllPlaced out body_at tail body (λ e. (end_at : ℕ) × HoldsInstruction code e (Jump end_at) × K end_at)
-        × ArmsPlaced out other_at tail others K L
+        ArmStands (λ M. AllPlaced out pc false tests M) (λ q. AllPlaced out q tail body (λ e. (end_at : ℕ) × HoldsInstruction code e (Jump end_at) × K end_at))
+        (λ q. ArmsPlaced out q tail others K L)
 
   -- a weaker condition on where it leads
   mutual
@@ -183,8 +259,22 @@ module _ (code : List ℕ) (place : ℕ → ℕ) (p : SourceProgram) where
     placed_more (Plain word) tail out pc K K' f (inl h) = inl (plain_more tail pc word K K' f h)
     placed_more (Plain word) tail out pc K K' f (inr h) = inr (h.0, h.1, call_more tail pc h.1 (K (following pc)) (K' (following pc)) (f (following pc)) h.2, h.3)
     placed_more (Call d) tail out pc K K' f h = (h.0, call_more tail pc (place d) (K (following pc)) (K' (following pc)) (f (following pc)) h.1)
-    placed_more (Child d address) tail out pc K K' f h = (h.0, h.1, h.2, h.3, call_more tail h.0 (place d) (K (following h.0)) (K' (following h.0)) (f (following h.0)) h.4)
-    placed_more (Text kind address size) tail out pc K K' f h = (h.0, h.1, h.2, h.3, h.4, h.5, text_more tail h.1 kind K K' f h.6)
+    placed_more (Child d address) tail out pc K K' f h = record {
+      next = h.next;
+      small = h.small;
+      number = h.number;
+      known = h.known;
+      call = call_more tail h.next (place d) (K (following h.next)) (K' (following h.next)) (f (following h.next)) h.call;
+    }
+    placed_more (Text kind address size) tail out pc K K' f h = record {
+      middle = h.middle;
+      next = h.next;
+      address_small = h.address_small;
+      characters_small = h.characters_small;
+      address_stands = h.address_stands;
+      characters_stand = h.characters_stand;
+      text = text_more tail h.next kind K K' f h.text;
+    }
     placed_more (If first Empty) tail out pc K K' f h = (h.0, h.1, all_more first tail out (following pc) K K' f h.2, f h.0 h.3)
     placed_more (If first (Then node rest)) tail out pc K K' f h = (
       h.0,
@@ -193,13 +283,28 @@ module _ (code : List ℕ) (place : ℕ → ℕ) (p : SourceProgram) where
       placed_more node (is_tail rest tail) out h.0 (λ q. AllPlaced out q tail rest K) (λ q. AllPlaced out q tail rest K') (λ q k. all_more rest tail out q K K' f k) h.3,
     )
     placed_more (Until body) tail out pc K K' f h = (h.0, h.1, h.2, f (following h.0) h.3)
-    placed_more (While test body) tail out pc K K' f h = (h.0, h.1, h.2, h.3, h.4, h.5, h.6, f h.2 h.7)
-    placed_more (Do body plus) tail out pc K K' f h = (h.0, h.1, h.2, h.3, h.4, h.5, h.6, h.7, f h.3 h.8)
+    placed_more (While test body) tail out pc K K' f h = record {
+      test_end = h.test_end;
+      body_end = h.body_end;
+      next = h.next;
+      test = h.test;
+      branch = h.branch;
+      body = h.body;
+      jump = h.jump;
+      onward = f h.next h.onward;
+    }
+    placed_more (Do body plus) tail out pc K K' f h = loop_more (λ out q L. AllPlaced out q false body L) plus pc K K' f h
     placed_more (Again body) tail out pc K K' f h = h
-    placed_more (QDo body plus) tail out pc K K' f h = (h.0, h.1, h.2, f h.1 h.3, (h.4.0, h.4.1, h.4.2, h.4.3, h.4.4, h.4.5, h.4.6, h.4.7, f h.4.3 h.4.8))
+    placed_more (QDo body plus) tail out pc K K' f h = record {
+      loop_at = h.loop_at;
+      end_at = h.end_at;
+      skip = h.skip;
+      onward = f h.end_at h.onward;
+      loop = loop_more (λ out q L. AllPlaced out q false body L) plus h.loop_at K K' f h.loop;
+    }
     placed_more (Case arms rest) tail out pc K K' f h =
-        arms_more arms tail out pc K K' (λ q. (drop_at : ℕ) × (next : ℕ) × AllPlaced out q false rest (λ e. e ≡ drop_at) × StandIn code drop_at end_case_cells next × K next)
-        (λ q. (drop_at : ℕ) × (next : ℕ) × AllPlaced out q false rest (λ e. e ≡ drop_at) × StandIn code drop_at end_case_cells next × K' next) f (λ q l. (l.0, l.1, l.2, l.3, f l.1 l.4)) h
+        arms_more arms tail out pc K K' (λ q. LastStands (λ L. AllPlaced out q false rest L) K) (λ q. LastStands (λ L. AllPlaced out q false rest L) K') f
+        (λ q l. last_more (λ L. AllPlaced out q false rest L) K K' f l) h
     placed_more Leave tail out pc K K' f h = h
     placed_more Exit tail out pc K K' f h = h
 
@@ -209,23 +314,53 @@ module _ (code : List ℕ) (place : ℕ → ℕ) (p : SourceProgram) where
 
     arms_more : (arms : Arms) (tail : Bool) (out : Option ℕ) (pc : ℕ) (K K' L L' : ℕ → Type 0) → ((q : ℕ) → K q → K' q) → ((q : ℕ) → L q → L' q) → ArmsPlaced out pc tail arms K L → ArmsPlaced out pc tail arms K' L'
     arms_more NoArm tail out pc K K' L L' f g h = g pc h
-    arms_more (Arm tests body others) tail out pc K K' L L' f g h = (
-      h.0,
-      h.1,
-      h.2,
-      h.3,
-      h.4,
-      all_more body tail out h.1 (λ e. (end_at : ℕ) × HoldsInstruction code e (Jump end_at) × K end_at) (λ e. (end_at : ℕ) × HoldsInstruction code e (Jump end_at) × K' end_at) (λ e k. (k.0, k.1, f k.0 k.2)) h.5,
-      arms_more others tail out h.2 K K' L L' f g h.6,
-    )
+    arms_more (Arm tests body others) tail out pc K K' L L' f g h = record {
+      of_at = h.of_at;
+      body_at = h.body_at;
+      other_at = h.other_at;
+      tests = h.tests;
+      chooses = h.chooses;
+      body =
+          all_more body tail out h.body_at (λ e. (end_at : ℕ) × HoldsInstruction code e (Jump end_at) × K end_at) (λ e. (end_at : ℕ) × HoldsInstruction code e (Jump end_at) × K' end_at) (λ e k. (k.0, k.1, f k.0 k.2)) h.body;
+      others = arms_more others tail out h.other_at K K' L L' f g h.others;
+    }
 
-  -- the parts of a WHILE loop
-  pub record WhileStands (out : Option ℕ) (begin test_end body_end next : ℕ) (test body : Nodes) : Type 0 where
+  -- a loop whose test or body has come to its end: BEGIN body UNTIL, and BEGIN test WHILE body REPEAT
+  pub record UntilStands (out : Option ℕ) (pc : ℕ) (body : Nodes) (After : ℕ → Type 0) : Type 0 where
+    pub begin : ℕ
+    pub branch : HoldsInstruction code pc (Branch begin)
+    pub body_stands : AllPlaced out begin false body (λ e. e ≡ pc)
+    pub after : After (following pc)
+    pub few : tokens_of body ≤ p.source_tokens
+
+  pub record WhileStands (out : Option ℕ) (test_end body_end : ℕ) (test body : Nodes) (After : ℕ → Type 0) : Type 0 where
+    pub begin : ℕ
+    pub next : ℕ
     pub test_stands : AllPlaced out begin false test (λ e. e ≡ test_end)
     pub branch : HoldsInstruction code test_end (Branch next)
     pub body_stands : AllPlaced out (following test_end) false body (λ e. e ≡ body_end)
     pub jump : HoldsInstruction code body_end (Jump begin)
+    pub after : After next
     pub few : tokens_of test + tokens_of body ≤ p.source_tokens
+
+  -- OF, whose tests have come to their end
+  pub record OfTestStands (pc : ℕ) (body : Nodes) (others : Arms) (rest : Nodes) (w : List Work) (BodyStands OthersStand : ℕ → Type 0) : Type 0 where
+    pub body_at : ℕ
+    pub other_at : ℕ
+    pub chooses : OfStands pc body_at other_at
+    pub body_stands : BodyStands body_at
+    pub others_stand : OthersStand other_at
+    pub body_few : tokens_of body + 1 + ahead w ≤ p.source_tokens
+    pub others_few : node_tokens (Case others rest) + ahead w ≤ p.source_tokens
+
+  -- the end of a turn of a counted loop
+  pub record TurnMark (out : Option ℕ) (pc : ℕ) (body : Nodes) (plus : Bool) : Type 0 where
+    pub out_at : ℕ
+    pub body_at : ℕ
+    pub is : out ≡ Some out_at
+    pub body_stands : AllPlaced out body_at false body (λ e. e ≡ pc)
+    pub turn : TurnStands plus pc body_at out_at
+    pub few : tokens_of body ≤ p.source_tokens
 
   -- work stands at a place, in a loop that is dropped at `out`. The ends of a true branch and of an arm are jumps, or a return where
   -- nothing but the end of the body is left
@@ -233,21 +368,31 @@ module _ (code : List ℕ) (place : ℕ → ℕ) (p : SourceProgram) where
   Stands out pc [] = Returns pc
   Stands out pc (Todo node ∷ w) = Placed out pc (ends_body w) node (λ q. Stands out q w) × (node_tokens node + ahead w ≤ p.source_tokens)
   Stands out pc (TrueEnd ∷ w) = (((next : ℕ) × HoldsInstruction code pc (Jump next) × Stands out next w) ⊎ (Returns pc × (ends_body w ≡ true))) × (1 + ahead w ≤ p.source_tokens)
-  Stands out pc (UntilTest body ∷ w) = (begin : ℕ) × HoldsInstruction code pc (Branch begin) × AllPlaced out begin false body (λ e. e ≡ pc) × Stands out (following pc) w × (tokens_of body ≤ p.source_tokens)
-  Stands out pc (WhileTest test body ∷ w) = (begin : ℕ) × (body_end : ℕ) × (next : ℕ) × WhileStands out begin pc body_end next test body × Stands out next w
-  Stands out pc (Repeat test body ∷ w) = (begin : ℕ) × (test_end : ℕ) × (next : ℕ) × WhileStands out begin test_end pc next test body × Stands out next w
+  Stands out pc (UntilTest body ∷ w) = UntilStands out pc body (λ q. Stands out q w)
+  Stands out pc (WhileTest test body ∷ w) = (body_end : ℕ) × WhileStands out pc body_end test body (λ q. Stands out q w)
+  Stands out pc (Repeat test body ∷ w) = (test_end : ℕ) × WhileStands out test_end pc test body (λ q. Stands out q w)
   Stands out pc (BeginAgain body ∷ w) = (begin : ℕ) × HoldsInstruction code pc (Jump begin) × AllPlaced out begin false body (λ e. e ≡ pc) × (tokens_of body ≤ p.source_tokens)
   Stands out pc (OfTest body others rest ∷ w) =
-      (body_at : ℕ) × (other_at : ℕ) × OfStands pc body_at other_at × AllPlaced out body_at (ends_body w) body (λ e. (end_at : ℕ) × HoldsInstruction code e (Jump end_at) × Stands out end_at w)
-      × Placed out other_at (ends_body w) (Case others rest) (λ q. Stands out q w) × (tokens_of body + 1 + ahead w ≤ p.source_tokens) × (node_tokens (Case others rest) + ahead w ≤ p.source_tokens)
+      OfTestStands pc body others rest w (λ q. AllPlaced out q (ends_body w) body (λ e. (end_at : ℕ) × HoldsInstruction code e (Jump end_at) × Stands out end_at w))
+      (λ q. Placed out q (ends_body w) (Case others rest) (λ e. Stands out e w))
   Stands out pc (EndOf ∷ w) = (((next : ℕ) × HoldsInstruction code pc (Jump next) × Stands out next w) ⊎ (Returns pc × (ends_body w ≡ true))) × (1 + ahead w ≤ p.source_tokens)
   Stands out pc (EndCase ∷ w) = (next : ℕ) × StandIn code pc end_case_cells next × Stands out next w
-  Stands out pc (Turn body plus ∷ w) = (out_at : ℕ) × (body_at : ℕ) × (out ≡ Some out_at) × AllPlaced out body_at false body (λ e. e ≡ pc) × TurnStands plus pc body_at out_at × (tokens_of body ≤ p.source_tokens)
+  Stands out pc (Turn body plus ∷ w) = TurnMark out pc body plus
+
+  -- what drops a loop stands at its end, and then what follows it
+  pub record DropStands (out : Option ℕ) (After : Option ℕ → ℕ → Type 0) (Outer : Option ℕ → Type 0) : Type 0 where
+    pub out_at : ℕ
+    pub outer : Option ℕ
+    pub next : ℕ
+    pub is : out ≡ Some out_at
+    pub drops : StandIn code out_at out_cells next
+    pub after : After outer next
+    pub loops : Outer outer
 
   -- what drops the innermost loop stands at `out`, and then what follows it; outside of loops there is none
   abbrev pub Loops : Option ℕ → List Work → Type 0
   Loops out [] = out ≡ None
-  Loops out (Turn body plus ∷ w) = (out_at : ℕ) × (outer : Option ℕ) × (next : ℕ) × (out ≡ Some out_at) × StandIn code out_at out_cells next × Stands outer next w × Loops outer w
+  Loops out (Turn body plus ∷ w) = DropStands out (λ outer next. Stands outer next w) (λ outer. Loops outer w)
   Loops out (Todo node ∷ w) = Loops out w
   Loops out (TrueEnd ∷ w) = Loops out w
   Loops out (UntilTest body ∷ w) = Loops out w
@@ -350,25 +495,42 @@ module _ (code : List ℕ) (place : ℕ → ℕ) (p : SourceProgram) where
     opens_node Leave out pc w h l n = record { out = out; stands = (h, n); loops = l; fewer = omega arith }
     opens_node Exit out pc w h l n = record { out = None; stands = (h, omega arith); loops = refl; fewer = omega arith }
     opens_node (Until body) out pc w h l n =
-        let mark : Stands out h.0 (UntilTest body ∷ w) = (pc, h.2, h.1, h.3, omega arith) in
+        let mark : Stands out h.0 (UntilTest body ∷ w) = record { begin = pc; branch = h.2; body_stands = h.1; after = h.3; few = omega arith } in
         let o = opens_all body out pc h.0 (IsUntil body w) (UntilTest body ∷ w) h.1 mark mark l l (omega arith) (omega arith) in
         record { out = o.out; stands = o.stands; loops = o.loops; fewer = omega (arith, o.fewer) }
     opens_node (While test body) out pc w h l n =
-        let parts : WhileStands out pc h.0 h.1 h.2 test body = record { test_stands = h.3; branch = h.4; body_stands = h.5; jump = h.6; few = omega arith } in
-        let mark : Stands out h.0 (WhileTest test body ∷ w) = (pc, h.1, h.2, parts, h.7) in
-        let o = opens_all test out pc h.0 (IsWhile test body w) (WhileTest test body ∷ w) h.3 mark mark l l (omega arith) (omega arith) in
+        let parts : WhileStands out h.test_end h.body_end test body (λ q. Stands out q w) = record {
+          begin = pc;
+          next = h.next;
+          test_stands = h.test;
+          branch = h.branch;
+          body_stands = h.body;
+          jump = h.jump;
+          after = h.onward;
+          few = omega arith;
+        } in
+        let mark : Stands out h.test_end (WhileTest test body ∷ w) = (h.body_end, parts) in
+        let o = opens_all test out pc h.test_end (IsWhile test body w) (WhileTest test body ∷ w) h.test mark mark l l (omega arith) (omega arith) in
         record { out = o.out; stands = o.stands; loops = o.loops; fewer = omega (arith, o.fewer) }
     opens_node (Again body) out pc w h l n =
         let mark : Stands out h.0 (BeginAgain body ∷ w) = (pc, h.2, h.1, omega arith) in
         let o = opens_all body out pc h.0 (IsAgain body w) (BeginAgain body ∷ w) h.1 mark mark l l (omega arith) (omega arith) in
         record { out = o.out; stands = o.stands; loops = o.loops; fewer = omega (arith, o.fewer) }
     opens_node (Case NoArm rest) out pc w h l n =
-        let mark : Stands out h.0 (EndCase ∷ w) = (h.1, h.3, h.4) in
-        let o = opens_all rest out pc h.0 (IsEndCase w) (EndCase ∷ w) h.2 mark mark l l (omega arith) (omega arith) in
+        let mark : Stands out h.drop_at (EndCase ∷ w) = (h.next, h.drops, h.onward) in
+        let o = opens_all rest out pc h.drop_at (IsEndCase w) (EndCase ∷ w) h.rest mark mark l l (omega arith) (omega arith) in
         record { out = o.out; stands = o.stands; loops = o.loops; fewer = omega (arith, o.fewer) }
     opens_node (Case (Arm tests body others) rest) out pc w h l n =
-        let mark : Stands out h.0 (OfTest body others rest ∷ w) = (h.1, h.2, h.4, h.5, h.6, omega arith, omega arith) in
-        let o = opens_all tests out pc h.0 (IsOf body others rest w) (OfTest body others rest ∷ w) h.3 mark mark l l (omega arith) (omega arith) in
+        let mark : Stands out h.of_at (OfTest body others rest ∷ w) = record {
+          body_at = h.body_at;
+          other_at = h.other_at;
+          chooses = h.chooses;
+          body_stands = h.body;
+          others_stand = h.others;
+          body_few = omega arith;
+          others_few = omega arith;
+        } in
+        let o = opens_all tests out pc h.of_at (IsOf body others rest w) (OfTest body others rest ∷ w) h.tests mark mark l l (omega arith) (omega arith) in
         record { out = o.out; stands = o.stands; loops = o.loops; fewer = omega (arith, o.fewer) }
 
     opens_all : (nodes : Nodes) (out : Option ℕ) (pc e : ℕ) (f : First) (w : List Work) → AllPlaced out pc (ends_body w) nodes (λ x. x ≡ e) →
