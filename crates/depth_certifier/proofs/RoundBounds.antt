@@ -139,14 +139,22 @@ start_keeps : (lim : Limits) → Keeps lim bottom
 start_keeps lim = record { need = omega arith; peak = omega arith; back = omega arith; exit = tt }
 
 module _ (lim : Limits) where
+  -- the walk of a body refuses nothing, and stays below its effect
+  record BodyFound (zs : Known) (hs : List (ℤ × ℤ)) (e : Effect) (body : Nodes) (k : ℕ) (heads : List (ℤ × ℤ)) : Type 0 where
+    walked : Walk
+    is : body_walk lim zs None body heads ≡ Ok walked
+    effect : EffectIn (made walked) e
+    count : length walked.heads ≡ k + loops body
+    within : HeadsIn walked.heads hs
+
   body_found : (zs ys : Known) (hs : List (ℤ × ℤ)) → KnownIn zs ys → (e : Effect) → Keeps lim e → (body : Nodes) (k : ℕ) → BodyFits ys hs e body k → (heads : List (ℤ × ℤ)) → length heads ≡ k → HeadsIn heads hs →
-      (w : Walk) × (body_walk lim zs None body heads ≡ Ok w) × EffectIn (made w) e × (length w.heads ≡ k + loops body) × HeadsIn w.heads hs
+      BodyFound zs hs e body k heads
   body_found zs ys hs less e room body k f heads count within =
       let begin : Rel lim e room hs 0 0 0 0 k (start lim zs None heads) (At entry) Unreachable = record { place = below_same (At entry); leaves = tt; effect = bottom_in e; count = count; heads = within } in
       let r = found_from lim e room hs 0 0 0 0 (k + loops body) f.0 Unreachable 0 0 0 0 (k + loops body) Unreachable Unreachable (walk lim zs None None Return body (start lim zs None heads)) (ends lim)
       (walk_found lim e room zs ys hs less None tt body Return k (At entry) Unreachable f.0 f.1 None tt 0 0 0 0 (omega arith) (omega arith) tt tt (start lim zs None heads) begin)
       (λ v q. ends_found lim e room hs 0 0 0 0 (k + loops body) f.0 Unreachable v f.2 q) in
-      (r.walk, r.is, r.rel.effect, r.rel.count, r.rel.heads)
+      record { walked = r.walk; is = r.is; effect = r.rel.effect; count = r.rel.count; within = r.rel.heads }
 
   record BodyHolds (zs : Known) (body : Nodes) (heads : List (ℤ × ℤ)) (w : Walk) : Type 0 where
     more : List (ℤ × ℤ)
@@ -189,10 +197,10 @@ module _ (p : SourceProgram) where
   bodies_found zs ys hs less (body ∷ bodies) [] d k v heads count within = absurd v
   bodies_found zs ys hs less (body ∷ bodies) (e ∷ es) d k v heads count within =
       let b = body_found (definition_limits p d) zs ys hs less e v.1 body k v.0 heads count within in
-      let r = bodies_found zs ys hs less bodies es (suc d) (k + loops body) v.2 b.0.heads b.3 b.4 in (
-        record { effects = made b.0 ∷ r.0.effects; heads = r.0.heads },
-        ap (λ s. on_body d s (λ w. with_effect (made w) (bodies_round (definition_limits p) zs bodies (suc d) w.heads))) b.1 ∙ ap (λ s. with_effect (made b.0) s) r.1,
-        (b.2, r.2),
+      let r = bodies_found zs ys hs less bodies es (suc d) (k + loops body) v.2 b.walked.heads b.count b.within in (
+        record { effects = made b.walked ∷ r.0.effects; heads = r.0.heads },
+        ap (λ s. on_body d s (λ w. with_effect (made w) (bodies_round (definition_limits p) zs bodies (suc d) w.heads))) b.is ∙ ap (λ s. with_effect (made b.walked) s) r.1,
+        (b.effect, r.2),
         r.3,
       )
 

@@ -98,7 +98,7 @@ module _ (data_start : ℕ) (code : List ℕ) (size : length code ≡ data_start
   pub row_stays : (is : List Instr) (pc q : ℕ) (c : List ℕ) (r da ra : List (Option ℕ)) (o : World) (under k below j hi return_high : ℕ) →
       length c ≡ under + k → length r ≡ below + j → stays to_end hi return_high is k k j j ≡ true → HasAll code pc is q →
       BeforeEach (StaysWithin under (under + hi) below (below + return_high)) data_start (length is) (standing_at_depths (machine_at code pc r da ra) c o)
-  row_stays is pc q c r da ra o under k below j hi return_high e f st has = (row_holds_at is pc q c r da ra o under k below j hi return_high e f st has).1
+  row_stays is pc q c r da ra o under k below j hi return_high e f st has = (row_holds_at is pc q c r da ra o under k below j hi return_high e f st has).moments
 
   -- the end of a run that is ended, where the walk asks so of its end
   pub row_ends : to_end ≡ true →
@@ -108,9 +108,9 @@ module _ (data_start : ℕ) (code : List ℕ) (size : length code ≡ data_start
       StaysWithin under (under + hi) below (below + return_high) (run open_storage data_start (length is) (standing_at_depths (machine_at code pc r da ra) c o))
   row_ends t is pc q c r da ra o under k below j hi return_high s e f st has h =
       let rows = row_holds_at is pc q c r da ra o under k below j hi return_high e f st has in
-      let u = rows.2 in
-      subst (StaysWithin under (under + hi) below (below + return_high)) (sym rows.0)
-      (within_stopped data_start code size to_end under below hi return_high u.0 u.1 u.2 u.3 (feed data_start is (standing_at_depths (machine_at code pc r da ra) c o)) s (ap (λ w. w.stop) (sym rows.0) ∙ h) (u.5 t) u.4)
+      subst (StaysWithin under (under + hi) below (below + return_high)) (sym rows.feeds)
+      (within_stopped data_start code size to_end under below hi return_high rows.height rows.top rows.return_height rows.return_top (feed data_start is (standing_at_depths (machine_at code pc r da ra) c o)) s
+      (ap (λ w. w.stop) (sym rows.feeds) ∙ h) (rows.limits t) rows.counts)
 
   -- what is meant, at the end of a row
   pub row_comes : (is : List Instr) (pc q : ℕ) (c : List ℕ) (r base da ra : List (Option ℕ)) (o : World) (under k below j hi return_high : ℕ) (x : Outcome) →
@@ -118,16 +118,15 @@ module _ (data_start : ℕ) (code : List ℕ) (size : length code ≡ data_start
       RowMeans code (past pc is) base (data_past (pos (length c)) is) (return_past (pos (length r)) is) (feed data_start is (standing_at_depths (machine_at code pc r da ra) c o)) x → MayEnd x →
       HasCome code q base (run open_storage data_start (length is) (standing_at_depths (machine_at code pc r da ra) c o)) x
   row_comes is pc q c r base da ra o under k below j hi return_high (Goes s) e f st has h m =
-      let rows = row_holds_at is pc q c r da ra o under k below j hi return_high e f st has in
-      let u = rows.2 in (
+      let rows = row_holds_at is pc q c r da ra o under k below j hi return_high e f st has in (
         h.0,
         h.1,
-        rows.0 ∙ settled (feed data_start is (standing_at_depths (machine_at code pc r da ra) c o)) q s.cells (return_places s.entries base) h.0 h.1 _ _ s.world under below u.0 u.1 u.2 u.3
-            (h.2 ∙ ap (λ p. standing (machine_at code p (return_places s.entries base) h.0 h.1) s.cells (data_past (pos (length c)) is) (return_past (pos (length r)) is) s.world) (past_is code is pc q has)) u.4,
+        rows.feeds ∙ settled (feed data_start is (standing_at_depths (machine_at code pc r da ra) c o)) q s.cells (return_places s.entries base) h.0 h.1 _ _ s.world under below rows.height rows.top rows.return_height rows.return_top
+            (h.2 ∙ ap (λ p. standing (machine_at code p (return_places s.entries base) h.0 h.1) s.cells (data_past (pos (length c)) is) (return_past (pos (length r)) is) s.world) (past_is code is pc q has)) rows.counts,
       )
   row_comes is pc q c r base da ra o under k below j hi return_high (Ends end world) e f st has h m =
       let rows = row_holds_at is pc q c r da ra o under k below j hi return_high e f st has in
-      (m.0, m.1, ended (run open_storage data_start (length is) (standing_at_depths (machine_at code pc r da ra) c o)) (feed data_start is (standing_at_depths (machine_at code pc r da ra) c o)) world (machine_end end) m.0 rows.0 m.1 h)
+      (m.0, m.1, ended (run open_storage data_start (length is) (standing_at_depths (machine_at code pc r da ra) c o)) (feed data_start is (standing_at_depths (machine_at code pc r da ra) c o)) world (machine_end end) m.0 rows.feeds m.1 h)
     where
       ended : (w v : OpenConfiguration) (world : World) (x : Option Stop) (stop : Stop) → w ≡ v → x ≡ Some stop → RowEnds v code x world → EndedIn w code stop world
       ended w v world x stop e f h = subst (λ u. EndedIn u code stop world) (sym e) (subst (λ y. RowEnds v code y world) f h)

@@ -221,17 +221,27 @@ module _ (data_start : ℕ) (code : List ℕ) (size : length code ≡ data_start
   within_stopped k x j y w s e l st = within k x j y w l st (λ n. let f : ⊥ = cc in absurd f) (λ n. let f : ⊥ = cc in absurd f)
 
   -- a row's run is its feed, and each of its moments is within bounds
-  abbrev pub RowHolds : List Instr → OpenConfiguration → Type 0
-  RowHolds cells w =
-      (run open_storage data_start (length cells) w ≡ feed data_start cells w) × BeforeEach (StaysWithin r (r + hi) b (b + return_high)) data_start (length cells) w
-      × ((k : ℕ) × (x : ℕ) × (j : ℕ) × (y : ℕ) × Counts r b k x j y (feed data_start cells w) × (to_end ≡ true → Limits hi return_high k x j y))
+  pub record RowHolds (cells : List Instr) (w : OpenConfiguration) : Type 0 where
+    pub feeds : run open_storage data_start (length cells) w ≡ feed data_start cells w
+    pub moments : BeforeEach (StaysWithin r (r + hi) b (b + return_high)) data_start (length cells) w
+    pub height : ℕ
+    pub top : ℕ
+    pub return_height : ℕ
+    pub return_top : ℕ
+    pub counts : Counts r b height top return_height return_top (feed data_start cells w)
+    pub limits : to_end ≡ true → Limits hi return_high height top return_height return_top
 
   stopped_row : (cells : List Instr) (k x j y : ℕ) (w : OpenConfiguration) (s : Stop) → w.stop ≡ Some s → Limits hi return_high k x j y → Counts r b k x j y w → RowHolds cells w
-  stopped_row cells k x j y w s e l stand = (
-    run_stays (length cells) data_start s w e ∙ sym (feed_stays data_start cells s w e),
-    each_stays (StaysWithin r (r + hi) b (b + return_high)) data_start (length cells) s w e (within_stopped k x j y w s e l stand),
-    (k, x, j, y, subst (Counts r b k x j y) (sym (feed_stays data_start cells s w e)) stand, λ t. l),
-  )
+  stopped_row cells k x j y w s e l stand = record {
+    feeds = run_stays (length cells) data_start s w e ∙ sym (feed_stays data_start cells s w e);
+    moments = each_stays (StaysWithin r (r + hi) b (b + return_high)) data_start (length cells) s w e (within_stopped k x j y w s e l stand);
+    height = k;
+    top = x;
+    return_height = j;
+    return_top = y;
+    counts = subst (Counts r b k x j y) (sym (feed_stays data_start cells s w e)) stand;
+    limits = λ t. l;
+  }
 
   covered : (k x j y : ℕ) (e : Effect) (w : OpenConfiguration) (on : ℕ → ℕ → ℕ → ℕ → Bool) → effect_at w.core ≡ e → WalkStep hi return_high e on k x j y → Counts r b k x j y w → StaysWithin r (r + hi) b (b + return_high) w
   covered k x j y e w on same o stand =
@@ -242,15 +252,29 @@ module _ (data_start : ℕ) (code : List ℕ) (size : length code ≡ data_start
   -- one cell in front of a row whose rest is known
   cons_row : (c : Instr) (cells : List Instr) (f : Effect) (w now : OpenConfiguration) → advanced w.stop open_storage data_start w ≡ now →
       feed data_start (c ∷ cells) w ≡ feed data_start cells now → StaysWithin r (r + hi) b (b + return_high) w → RowHolds cells now → RowHolds (c ∷ cells) w
-  cons_row c cells f w now goes fed here on = (
-    ap (run open_storage data_start (length cells)) goes ∙ on.0 ∙ sym fed,
-    (here, subst (BeforeEach (StaysWithin r (r + hi) b (b + return_high)) data_start (length cells)) (sym goes) on.1),
-    (on.2.0, on.2.1, on.2.2, on.2.3, subst (Counts r b on.2.0 on.2.1 on.2.2 on.2.3) (sym fed) on.2.4, on.2.5),
-  )
+  cons_row c cells f w now goes fed here on = record {
+    feeds = ap (run open_storage data_start (length cells)) goes ∙ on.feeds ∙ sym fed;
+    moments = (here, subst (BeforeEach (StaysWithin r (r + hi) b (b + return_high)) data_start (length cells)) (sym goes) on.moments);
+    height = on.height;
+    top = on.top;
+    return_height = on.return_height;
+    return_top = on.return_top;
+    counts = subst (Counts r b on.height on.top on.return_height on.return_top) (sym fed) on.counts;
+    limits = on.limits;
+  }
 
   pub row : (cells : List Instr) (q k x j y : ℕ) (w : OpenConfiguration) (stop : Option Stop) → w.stop ≡ stop →
       stays to_end hi return_high cells k x j y ≡ true → HasAll code w.core.pc cells q → HasCode code w → Counts r b k x j y w → RowHolds cells w
-  row [] q k x j y w stop e st has bk stand = (refl, tt, (k, x, j, y, stand, λ t. limits_of hi return_high k x j y (subst (λ a. stays a hi return_high [] k x j y ≡ true) t st)))
+  row [] q k x j y w stop e st has bk stand = record {
+    feeds = refl;
+    moments = tt;
+    height = k;
+    top = x;
+    return_height = j;
+    return_top = y;
+    counts = stand;
+    limits = λ t. limits_of hi return_high k x j y (subst (λ a. stays a hi return_high [] k x j y ≡ true) t st);
+  }
   row (c ∷ cells) q k x j y w (Some s) e st has bk stand = stopped_row (c ∷ cells) k x j y w s e (walk_step hi return_high (effect 0 c) (stays to_end hi return_high cells) k x j y st).limits stand
   row (c ∷ cells) q k x j y w None e st has bk stand =
       step (effect w.core.pc c) (after_effect None open_storage data_start (effect w.core.pc c) w)
