@@ -36,6 +36,7 @@ use Rattle.j1_workbench.specs.Bounding.{Bounds}
 use Rattle.j1_workbench.specs.Evaluating.{IsReading, IsReadSource, Evaluates, status_after as status_of_eval}
 use Rattle.reference_eval.specs.declared.ends.EvalFinish.{EvalFinish}
 use Rattle.reference_eval.specs.declared.ends.EvalError.{EvalError}
+use Rattle.reference_eval.specs.Outside.{input_of}
 use Rattle.reference_eval.specs.Evaluation.{Evaluates as EvaluatesRun}
 use Rattle.j1_workbench.specs.Answers.{Does}
 
@@ -170,7 +171,8 @@ eval_refused source steps before after status name read refused console out = (r
 
 pub eval_evaluated : (source : List ℕ) (steps : ℕ) (before after : Surroundings) (status : Status) (answer : Answer) (program : SourceProgram) (result : Result EvalFinish EvalError) →
     answer ≡ record { status = status; name = None } → status ≡ status_of_eval result → IsOnlyRead 1 before.folder after.folder → IsReadSource source before.folder program →
-    EvaluatesRun program steps result before.console.bytes after.console.bytes before.console.faults after.console.faults before.out.bytes after.out.bytes before.out.faults after.out.faults →
+    EvaluatesRun program steps result (input_of before.console.bytes before.console.calls) (input_of after.console.bytes after.console.calls)
+    before.console.faults after.console.faults before.out.bytes after.out.bytes before.out.faults after.out.faults →
     Evaluates source steps before after answer.status (named answer.name)
 unfolding Evaluates
 eval_evaluated source steps before after status answer program result is told read found evaluates =

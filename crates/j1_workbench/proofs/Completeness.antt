@@ -18,7 +18,7 @@ use Rattle.depth_certifier.specs.Rounds.{Refusal, RoundsRefuse, ProperToken, Rou
 use Rattle.j1_workbench.specs.declared.status.Status.{Status}
 use Rattle.j1_workbench.specs.declared.status.Status.TheVariants.{Done, BadWords, Missing, SourceRefused, NotCertified, StepsUsed, InputEnded, Outside, Halted, ReadFault, WriteFault, OutOfMemory, TooLarge, NotYet}
 use Rattle.j1_workbench.specs.Surroundings.{Stream, FolderState, Surroundings}
-use Rattle.j1_workbench.specs.Files.{HoldsFile, IsWritten}
+use Rattle.j1_workbench.specs.Files.{HoldsFile}
 use Rattle.j1_workbench.specs.Sources.{HasCertificate, IsUncertified, IsRefusedText, IsRefusedSource}
 use Rattle.j1_workbench.specs.Driving.{IsRunAnswer}
 use Rattle.j1_workbench.specs.Running.{Runs}
@@ -30,7 +30,7 @@ use Rattle.j1_workbench.specs.MadeSource.{made_source}
 use Rattle.j1_workbench.specs.Making.{ThenWrites, Makes}
 use Rattle.j1_table.specs.Image.{Content}
 use Rattle.image_file.specs.Laws.{FilesAreImages}
-use Rattle.j1_workbench.proofs.FileCompleteness.{ImageFileLaws, TextLaws, told_text, not_missing, done_answer, run_answer, execute_complete, list_complete, assemble_complete, built_runs}
+use Rattle.j1_workbench.proofs.FileCompleteness.{ImageFileLaws, TextLaws, told_text, not_missing, done_answer, done_put, run_answer, execute_complete, list_complete, assemble_complete, built_runs}
 use Rattle.reference_eval.specs.declared.ends.End.TheVariants as ends
 use Rattle.reference_eval.specs.declared.ends.EvalFinish.{EvalFinish}
 use Rattle.reference_eval.specs.declared.ends.EvalFinish.TheVariants as finish
@@ -169,16 +169,16 @@ bound_complete one source text before after status name (read, console, inr boun
     by_certificate text status (IsAnswerOfText text) bounds.program bounds.certificate found
     (bounds.program, found.program_is, bound_answer bounds.program before.out after.out status name bounds.answers calm.out)
 
-done_write : (name content : List ℕ) (before after : FolderState) (status : Status) → IsWritten 2 name content before after status → (Rose before.write_faults after.write_faults → ⊥) → status ≡ Done
-done_write name content before after status wrote calm = elim wrote.written [ inl done ↦ done.0 | inr failed ↦ absurd (calm failed.1) ]
-
 build_complete : OneRefusal → (source file text : List ℕ) (before after : Surroundings) (status : Status) (name : List ℕ) →
     Builds source file before after status name → Tells before.folder.files source text → FailsNowhere before after → (Rose before.folder.write_faults after.folder.write_faults → ⊥) → IsComplete text status (λ s. s ≡ Done)
 unfolding Builds
 build_complete one source file text before after status name (quiet, inl refused) told calm writes =
     by_refusal one text status name (λ s. s ≡ Done) (refused_source source text before.folder after.folder status name told calm.folder refused.1)
 build_complete one source file text before after status name (quiet, inr wrote) told calm writes =
-    by_source source text before.folder status (λ s. s ≡ Done) wrote.image told wrote.compiles (done_write file _ before.folder after.folder status wrote.written writes)
+    elim (done_put 2 file _ before.folder after.folder status wrote.written writes) [
+      | inl wanting ↦ by_refusal one text status name (λ s. s ≡ Done) (inl wanting)
+      | inr done ↦ by_source source text before.folder status (λ s. s ≡ Done) wrote.image told wrote.compiles done
+    ]
 
 risen_later : (a b c : ℕ) → a ≤ b → Rose b c → Rose a c
 risen_later a b c h r = omega (arith, r)

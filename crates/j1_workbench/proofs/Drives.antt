@@ -11,7 +11,7 @@ use Rattle.j1_simulator.specs.declared.ends.Finish.TheVariants.{Ended, StepsUsed
 use Rattle.j1_simulator.specs.declared.ends.DriveError.{DriveError}
 use Rattle.j1_simulator.specs.declared.ends.DriveError.TheVariants.{Read, Write}
 use Rattle.j1_simulator.specs.MachineState.{MachineState, WantsAByte, IsTaking, machine_start}
-use Rattle.j1_simulator.specs.Step.{By, step}
+use Rattle.j1_simulator.specs.Step.{Stop, By, step}
 use Rattle.outside_io.specs.Causes.{Rose}
 use Rattle.j1_simulator.specs.Run.{round_run}
 use Rattle.j1_simulator.specs.RoundMachine.{round_storage}
@@ -46,12 +46,12 @@ end_is_answer (Some (ends.Halted status)) = halted_is_answer status
 end_is_answer (Some ends.InputEnded) = tt
 end_is_answer (Some (ends.Outside address)) = tt
 
-as_run : (image : Content) (input : List ℕ) (steps : ℕ) (status : Status) (left before now : Option (List ℕ)) → IsRunAnswer status → RanAs image input steps status left before now → DriveLeaves image input steps status left before now
-as_run image input steps Done left before now answer ran = (answer, ran)
-as_run image input steps OutOfSteps left before now answer ran = (answer, ran)
-as_run image input steps InputEnded left before now answer ran = (answer, ran)
-as_run image input steps (Outside address) left before now answer ran = (answer, ran)
-as_run image input steps (Halted status) left before now answer ran = (answer, ran)
+as_run : (image : Content) (input : List ℕ) (steps : ℕ) (status : Status) (left before now : Option (List ℕ)) → IsRunAnswer status → RanAs image input steps status left before now → DriveLeaves image input steps steps status left before now
+as_run image input steps Done left before now answer ran = (answer, refl, ran)
+as_run image input steps OutOfSteps left before now answer ran = (answer, refl, ran)
+as_run image input steps InputEnded left before now answer ran = (answer, refl, ran)
+as_run image input steps (Outside address) left before now answer ran = (answer, refl, ran)
+as_run image input steps (Halted status) left before now answer ran = (answer, refl, ran)
 as_run image input steps ReadFault left before now answer ran = absurd answer
 as_run image input steps WriteFault left before now answer ran = absurd answer
 as_run image input steps status left before now answer ran = absurd answer
@@ -78,17 +78,17 @@ due_there image input k fits after stands wants =
 
 leaves : (image : Content) (input : List ℕ) (steps : ℕ) (after : MachineState) (result : Result Finish DriveError) (left before now : Option (List ℕ)) →
     OkSays steps (machine_start image) after result left before now input → ReadSays steps (machine_start image) after result left before now input → WriteSays steps (machine_start image) after result left before now input →
-    IfOk result (λ finish. end_told finish ≡ after.ended) → (result ≡ Err Read → WantsAByte after) → DriveLeaves image input steps (status_after result) left before now
+    IfOk result (λ finish. end_told finish ≡ after.ended) → (result ≡ Err Read → WantsAByte after) → (made : ℕ) × DriveLeaves image input steps made (status_after result) left before now
 leaves image input steps after (Ok (Ended end)) left before now at read write same wants =
-    as_run image input steps (status_of (Some end)) left before now (end_is_answer (Some end)) (ran image input steps _ after (Some end) (status_of (Some end)) left before now at same refl)
+    (steps, as_run image input steps (status_of (Some end)) left before now (end_is_answer (Some end)) (ran image input steps _ after (Some end) (status_of (Some end)) left before now at same refl))
 leaves image input steps after (Ok StepsUsed) left before now at read write same wants =
-    (tt, ran image input steps _ after None OutOfSteps left before now at same refl)
+    (steps, (tt, refl, ran image input steps _ after None OutOfSteps left before now at same refl))
 leaves image input steps after (Err Read) left before now at read write same wants =
     let told = read refl in
-    record { made = told.0; within = omega arith; left_is = told.2.left_is; printed = all_written before now _ told.2.out; due = due_there image input told.0 _ after told.2.stands (wants refl) }
+    (told.0, record { within = omega arith; left_is = told.2.left_is; printed = all_written before now _ told.2.out; due = due_there image input told.0 _ after told.2.stands (wants refl) })
 leaves image input steps after (Err Write) left before now at read write same wants =
     let told = write refl in
-    record { made = told.made; within = told.within; left_is = told.stands.left_is; front = told.stands.front; lacks = told.lacks }
+    (told.made, record { within = told.within; left_is = told.stands.left_is; front = told.stands.front; lacks = told.lacks })
 
 answer_of : (result : Result Finish DriveError) → (status_after result ≡ ReadFault) ⊎ ((status_after result ≡ WriteFault) ⊎ IsRunAnswer (status_after result))
 answer_of (Ok (Ended end)) = inr (inr (end_is_answer (Some end)))
@@ -119,11 +119,17 @@ ended_later : OnlyGrows round_storage → (image : Content) (bytes : List ℕ) (
 ended_later grows image bytes made steps fits after end le stands told =
     grows.ends image.data_start made steps (going_on (machine_start image) bytes) (By end) le (sym stands.ended ∙ ap (option_map By) (sym told))
 
-gave_leaves : OnlyGrows round_storage →
+-- after so many instructions the drive leaves this, and the run has the end of the machine
+pub record LeftAfter (image : Content) (bytes : List ℕ) (steps : ℕ) (status : Status) (end : Option End) (before now : Option (List ℕ)) : Type 0 where
+  pub made : ℕ
+  pub leaves : DriveLeaves image bytes steps made status (Some []) before now
+  pub stop_is : option_map By end ≡ (round_run image bytes made).stop
+
+left_after : OnlyGrows round_storage →
     (image : Content) (steps : ℕ) (after : MachineState) (result : Result Finish DriveError) (left before_left before now : Option (List ℕ))
     (calls calls_now : ℕ) → (m : MadeAtMost steps result (machine_start image) after before_left left before now calls calls_now) →
-    IfOk result (λ finish. end_told finish ≡ after.ended) → (result ≡ Err Read → WantsAByte after) → DriveLeaves image m.bytes steps (status_after result) (Some []) before now
-gave_leaves grows image steps after (Ok (Ended end)) left before_left before now calls calls_now m same wants =
+    IfOk result (λ finish. end_told finish ≡ after.ended) → (result ≡ Err Read → WantsAByte after) → LeftAfter image m.bytes steps (status_after result) after.ended before now
+left_after grows image steps after (Ok (Ended end)) left before_left before now calls calls_now m same wants =
     let later : round_run image m.bytes steps ≡ round_run image m.bytes m.made = ended_later grows image m.bytes m.made steps _ after end m.within m.stands same in
     let at : RanAs image m.bytes steps (status_of (Some end)) (Some []) before now = record {
       end = Some end;
@@ -131,9 +137,12 @@ gave_leaves grows image steps after (Ok (Ended end)) left before_left before now
       status_is = refl;
       left_is = m.used ∙ ap (λ c. Some c.input) (sym later);
       printed = subst (λ c. Appends before now c.printed) (sym later) (all_written before now _ (m.written (λ e. cc)));
-    } in
-    as_run image m.bytes steps (status_of (Some end)) (Some []) before now (end_is_answer (Some end)) at
-gave_leaves grows image steps after (Ok StepsUsed) left before_left before now calls calls_now m same wants =
+    } in record {
+      made = steps;
+      leaves = as_run image m.bytes steps (status_of (Some end)) (Some []) before now (end_is_answer (Some end)) at;
+      stop_is = m.stands.ended ∙ ap (λ c. c.stop) (sym later);
+    }
+left_after grows image steps after (Ok StepsUsed) left before_left before now calls calls_now m same wants =
     let whole : m.made ≡ steps = m.all refl in
     let at : RanAs image m.bytes m.made OutOfSteps (Some []) before now = record {
       end = None;
@@ -141,30 +150,31 @@ gave_leaves grows image steps after (Ok StepsUsed) left before_left before now c
       status_is = refl;
       left_is = m.used;
       printed = all_written before now _ (m.written (λ e. cc));
-    } in (tt, subst (λ n. RanAs image m.bytes n OutOfSteps (Some []) before now) whole at)
-gave_leaves grows image steps after (Err Read) left before_left before now calls calls_now m same wants = record {
+    } in record {
+      made = steps;
+      leaves = (tt, refl, subst (λ n. RanAs image m.bytes n OutOfSteps (Some []) before now) whole at);
+      stop_is = m.stands.ended ∙ ap (λ n. (round_run image m.bytes n).stop) whole;
+    }
+left_after grows image steps after (Err Read) left before_left before now calls calls_now m same wants = record {
   made = m.made;
-  within = m.within;
-  left_is = m.used;
-  printed = all_written before now _ (m.written (λ e. cc));
-  due = due_there image m.bytes m.made _ after m.stands (wants refl);
+  leaves = record { within = m.within; left_is = m.used; printed = all_written before now _ (m.written (λ e. cc)); due = due_there image m.bytes m.made _ after m.stands (wants refl) };
+  stop_is = m.stands.ended;
 }
-gave_leaves grows image steps after (Err Write) left before_left before now calls calls_now m same wants = record {
+left_after grows image steps after (Err Write) left before_left before now calls calls_now m same wants = record {
   made = m.made;
-  within = m.within;
-  left_is = m.used;
-  front = m.front;
-  lacks = m.lacks refl;
+  leaves = record { within = m.within; left_is = m.used; front = m.front; lacks = m.lacks refl };
+  stop_is = m.stands.ended;
 }
 
-halted_in_vain : (status : ℕ) → 0 ≤ in_vain (halted_status status)
-halted_in_vain status = omega arith
-
-vain_as_told : (result : Result Finish DriveError) (end : Option End) → IfOk result (λ finish. end_told finish ≡ end) → asked_in_vain result end ≤ in_vain (status_after result)
-vain_as_told (Ok (Ended ends.InputEnded)) end same = subst (λ e. asked_in_vain (Ok (Ended ends.InputEnded)) e ≤ 1) same (omega arith)
-vain_as_told (Ok (Ended (ends.Outside address))) end same = subst (λ e. asked_in_vain (Ok (Ended (ends.Outside address))) e ≤ 0) same (omega arith)
-vain_as_told (Ok (Ended (ends.Halted status))) end same = subst (λ e. asked_in_vain (Ok (Ended (ends.Halted status))) e ≤ in_vain (halted_status status)) same (omega arith)
-vain_as_told (Ok StepsUsed) end same = subst (λ e. asked_in_vain (Ok StepsUsed) e ≤ 0) same (omega arith)
+-- by the end of the machine, what the answer tells of it
+vain_as_told : (result : Result Finish DriveError) (end : Option End) → IfOk result (λ finish. end_told finish ≡ end) →
+    asked_in_vain result end ≤ in_vain (status_after result) (option_map By end)
+vain_as_told (Ok (Ended ends.InputEnded)) end same = subst (λ e. asked_in_vain (Ok (Ended ends.InputEnded)) e ≤ in_vain InputEnded (option_map By e)) same (omega arith)
+vain_as_told (Ok (Ended (ends.Outside address))) end same =
+    subst (λ e. asked_in_vain (Ok (Ended (ends.Outside address))) e ≤ in_vain (Outside address) (option_map By e)) same (omega arith)
+vain_as_told (Ok (Ended (ends.Halted status))) end same =
+    subst (λ e. asked_in_vain (Ok (Ended (ends.Halted status))) e ≤ in_vain (halted_status status) (option_map By e)) same (omega arith)
+vain_as_told (Ok StepsUsed) end same = subst (λ e. asked_in_vain (Ok StepsUsed) e ≤ in_vain OutOfSteps (option_map By e)) same (omega arith)
 vain_as_told (Err Read) end same = omega arith
 vain_as_told (Err Write) None same = omega arith
 vain_as_told (Err Write) (Some ends.InputEnded) same = omega arith
@@ -177,11 +187,13 @@ gave : OnlyGrows round_storage →
     console_after.calls →
     IfOk result (λ finish. end_told finish ≡ after.ended) → (result ≡ Err Read → WantsAByte after) → Gave image steps console_before console_after out_before out_after (status_after result)
 gave grows image steps after result console_before console_after out_before out_after m same wants =
-    let most = vain_as_told result after.ended same in
+    let found = left_after grows image steps after result console_after.bytes console_before.bytes out_before.bytes out_after.bytes console_before.calls console_after.calls m same wants in
+    let most = subst (λ stop. asked_in_vain result after.ended ≤ in_vain (status_after result) stop) found.stop_is (vain_as_told result after.ended same) in
     record {
       bytes = m.bytes;
       took = m.took;
-      leaves = gave_leaves grows image steps after result console_after.bytes console_before.bytes out_before.bytes out_after.bytes console_before.calls console_after.calls m same wants;
+      made = found.made;
+      leaves = found.leaves;
       calls = omega (arith, m.calls, most);
     }
 
@@ -202,7 +214,7 @@ drives grows image steps machine after result status console_before console_afte
       let at = subst (λ b. IfSome b (OkSays steps machine after result console_after.bytes out_before.bytes out_after.bytes)) told run in
       let failed = subst (λ b. IfSome b (ReadSays steps machine after result console_after.bytes out_before.bytes out_after.bytes)) told read in
       let broken = subst (λ b. IfSome b (WriteSays steps machine after result console_after.bytes out_before.bytes out_after.bytes)) told write in
-      subst (λ s. DriveLeaves image input steps s console_after.bytes out_before.bytes out_after.bytes) (sym is)
+      subst (λ s. (made : ℕ) × DriveLeaves image input steps made s console_after.bytes out_before.bytes out_after.bytes) (sym is)
       (leaves image input steps after result console_after.bytes out_before.bytes out_after.bytes
       (subst (λ m. OkSays steps m after result console_after.bytes out_before.bytes out_after.bytes input) begins at)
       (subst (λ m. ReadSays steps m after result console_after.bytes out_before.bytes out_after.bytes input) begins failed)

@@ -16,7 +16,7 @@ use Rattle.j1_workbench.specs.declared.status.Status.TheVariants.{OutOfMemory, B
 use Rattle.j1_workbench.specs.declared.answer.Answer.{Answer}
 use Rattle.j1_workbench.specs.Notes.{named}
 use Rattle.j1_workbench.specs.Surroundings.{FolderState, Surroundings, IsOnlyRead}
-use Rattle.j1_workbench.specs.Files.{IsRead, IsUnread, IsWritten, IsPut, calls_of}
+use Rattle.j1_workbench.specs.Files.{IsRead, IsUnread, IsWritten, IsPut}
 use Rattle.j1_workbench.specs.Sources.{IsRefusedSource}
 use Rattle.j1_workbench.specs.Compiling.{CompilesSource}
 use Rattle.j1_workbench.specs.Driving.{Drives}
@@ -69,52 +69,38 @@ written_after name content before middle after status read wrote = record {
   absences = omega (arith, read.absences, wrote.absences);
 }
 
-calls_at_least : (status : Status) → 1 ≤ calls_of status
-calls_at_least OutOfMemory = omega arith
-calls_at_least status = omega arith
-
--- a folder that was read once was not called too often
-read_within : (status : Status) (before after : FolderState) → IsOnlyRead 1 before after → IsOnlyRead (calls_of status) before after
-read_within status before after read =
-    let least = calls_at_least status in
-    record {
-      files = read.files;
-      calls = omega (arith, read.calls, least);
-      read_faults = read.read_faults;
-      write_faults = read.write_faults;
-      absences = read.absences;
-    }
+put_after : (name content : List ℕ) (before middle after : FolderState) (status : Status) → IsOnlyRead 1 before middle → IsPut 1 name content middle after status → IsPut 2 name content before after status
+put_after name content before middle after status read (inl wrote) = inl (written_after name content before middle after status read wrote)
+put_after name content before middle after status read (inr wanting) = inr (wanting.0, read_twice before middle after read wanting.1)
 
 -- ---- build
 
 pub build_refused : (source file : List ℕ) (before after : Surroundings) (status : Status) (name : List ℕ) →
     IsOnlyRead 1 before.folder after.folder → IsRefusedSource source before.folder after.folder status name → after.console ≡ before.console → after.out ≡ before.out → Builds source file before after status name
 unfolding Builds
-build_refused source file before after status name read refused console out = ((console, out), inl (read_within status before.folder after.folder read, refused))
+build_refused source file before after status name read refused console out = ((console, out), inl (read, refused))
 
 pub build_without_memory : (source file : List ℕ) (before after : Surroundings) (name : List ℕ) →
     IsOnlyRead 1 before.folder after.folder → after.console ≡ before.console → after.out ≡ before.out → Builds source file before after OutOfMemory name
 unfolding Builds
-build_without_memory source file before after name read console out = ((console, out), inl (read_within OutOfMemory before.folder after.folder read, tt))
+build_without_memory source file before after name read console out = ((console, out), inl (read, tt))
 
 build_put_by : (source file content : List ℕ) (before after : Surroundings) (middle : FolderState) (image : Content) (status : Status) (name : List ℕ) →
-    IsOnlyRead 1 before.folder middle → CompilesSource source before.folder image → IsImage image → content ≡ image_bytes image → IsPut file content middle after.folder status →
+    IsOnlyRead 1 before.folder middle → CompilesSource source before.folder image → IsImage image → content ≡ image_bytes image → IsPut 1 file content middle after.folder status →
     after.console ≡ before.console → after.out ≡ before.out → Builds source file before after status name
 unfolding Builds
-build_put_by source file content before after middle image status name read compiles fits same (inl wrote) console out = (
+build_put_by source file content before after middle image status name read compiles fits same put console out = (
   (console, out),
   inr (record {
     image = image;
     compiles = compiles;
     fits = fits;
-    written = subst (λ c. IsWritten 2 file c before.folder after.folder status) same (written_after file content before.folder middle after.folder status read wrote);
+    written = subst (λ c. IsPut 2 file c before.folder after.folder status) same (put_after file content before.folder middle after.folder status read put);
   }),
 )
-build_put_by source file content before after middle image status name read compiles fits same (inr wanting) console out =
-    ((console, out), inl (subst (λ s. IsOnlyRead (calls_of s) before.folder after.folder) (sym wanting.0) (read_twice before.folder middle after.folder read wanting.1), subst (λ s. IsRefusedSource source before.folder after.folder s name) (sym wanting.0) tt))
 
 pub build_put : (source file content : List ℕ) (before after : Surroundings) (middle : FolderState) (image : Content) (status : Status) (answer : Answer) →
-    answer ≡ record { status = status; name = None } → IsOnlyRead 1 before.folder middle → CompilesSource source before.folder image → IsImage image → content ≡ image_bytes image → IsPut file content middle after.folder status →
+    answer ≡ record { status = status; name = None } → IsOnlyRead 1 before.folder middle → CompilesSource source before.folder image → IsImage image → content ≡ image_bytes image → IsPut 1 file content middle after.folder status →
     after.console ≡ before.console → after.out ≡ before.out → Builds source file before after answer.status (named answer.name)
 build_put source file content before after middle image status answer is read compiles fits same put console out =
     subst (λ a. Builds source file before after a.status (named a.name)) (sym is) (build_put_by source file content before after middle image status [] read compiles fits same put console out)
@@ -174,25 +160,25 @@ list_written file text before after status image read is lists console same writ
 pub assemble_unread : (text file : List ℕ) (before after : Surroundings) (status : Status) →
     IsOnlyRead 1 before.folder after.folder → IsUnread 524288 text before.folder after.folder status → after.console ≡ before.console → after.out ≡ before.out → AssemblesFile text file before after status
 unfolding AssemblesFile
-assemble_unread text file before after status read unread console out = ((console, out), inl (read_within status before.folder after.folder read, inl unread))
+assemble_unread text file before after status read unread console out = ((console, out), inl (read, inl unread))
 
 pub assemble_bad : (name file content bytes : List ℕ) (before after : Surroundings) (line : ℕ) (cause : AsmCause) →
     IsOnlyRead 1 before.folder after.folder → IsRead 524288 name before.folder content → bytes ≡ content → IsFirstBad bytes line cause →
     after.console ≡ before.console → after.out ≡ before.out → AssemblesFile name file before after (BadListing line)
 unfolding AssemblesFile
 assemble_bad name file content bytes before after line cause read is same bad console out =
-    ((console, out), inl (read_within (BadListing line) before.folder after.folder read, inr (content, is, (cause, subst (λ b. IsFirstBad b line cause) same bad))))
+    ((console, out), inl (read, inr (content, is, (cause, subst (λ b. IsFirstBad b line cause) same bad))))
 
 pub assemble_without_memory : (name file : List ℕ) (before after : Surroundings) →
     IsOnlyRead 1 before.folder after.folder → after.console ≡ before.console → after.out ≡ before.out → AssemblesFile name file before after OutOfMemory
 unfolding AssemblesFile
-assemble_without_memory name file before after read console out = ((console, out), inl (read_within OutOfMemory before.folder after.folder read, inl tt))
+assemble_without_memory name file before after read console out = ((console, out), inl (read, inl tt))
 
 pub assemble_put : (name file content text bytes : List ℕ) (before after : Surroundings) (middle : FolderState) (image : Content) (status : Status) →
-    IsOnlyRead 1 before.folder middle → IsRead 524288 name before.folder text → bytes ≡ text → Assembles bytes image → IsImage image → content ≡ image_bytes image → IsPut file content middle after.folder status →
+    IsOnlyRead 1 before.folder middle → IsRead 524288 name before.folder text → bytes ≡ text → Assembles bytes image → IsImage image → content ≡ image_bytes image → IsPut 1 file content middle after.folder status →
     after.console ≡ before.console → after.out ≡ before.out → AssemblesFile name file before after status
 unfolding AssemblesFile
-assemble_put name file content text bytes before after middle image status read is same assembles fits laid (inl wrote) console out = (
+assemble_put name file content text bytes before after middle image status read is same assembles fits laid put console out = (
   (console, out),
   inr (record {
     text = text;
@@ -200,8 +186,6 @@ assemble_put name file content text bytes before after middle image status read 
     image = image;
     assembles = subst (λ b. Assembles b image) same assembles;
     fits = fits;
-    written = subst (λ c. IsWritten 2 file c before.folder after.folder status) laid (written_after file content before.folder middle after.folder status read wrote);
+    written = subst (λ c. IsPut 2 file c before.folder after.folder status) laid (put_after file content before.folder middle after.folder status read put);
   }),
 )
-assemble_put name file content text bytes before after middle image status read is same assembles fits laid (inr wanting) console out =
-    ((console, out), inl (subst (λ s. IsOnlyRead (calls_of s) before.folder after.folder) (sym wanting.0) (read_twice before.folder middle after.folder read wanting.1), inl (subst (λ s. IsUnread 524288 name before.folder after.folder s) (sym wanting.0) tt)))

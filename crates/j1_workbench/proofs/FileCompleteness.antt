@@ -13,7 +13,7 @@ use Rattle.j1_assembler.specs.FirstBad.{IsFirstBad, RefusesFirstBad}
 use Rattle.j1_workbench.specs.declared.status.Status.{Status}
 use Rattle.j1_workbench.specs.declared.status.Status.TheVariants.{Done, Missing, ReadFault, WriteFault, OutOfMemory, TooLarge, BadImage, BadListing}
 use Rattle.j1_workbench.specs.Surroundings.{Stream, FolderState, Surroundings}
-use Rattle.j1_workbench.specs.Files.{HoldsFile, IsRead, IsUnread, IsRefusedFile}
+use Rattle.j1_workbench.specs.Files.{HoldsFile, IsRead, IsUnread, IsRefusedFile, IsPut}
 use Rattle.j1_workbench.specs.Driving.{IsRunAnswer, Drives}
 use Rattle.j1_workbench.specs.Certifying.{Writes}
 use Rattle.j1_workbench.specs.Images.{IsBadImage, IsImageFile}
@@ -41,6 +41,12 @@ pub run_answer : (status : Status) (P Q : Type 0) → (status ≡ ReadFault) ⊎
 run_answer status P Q (inl e) read write no_read no_write = absurd (no_read (read e))
 run_answer status P Q (inr (inl e)) read write no_read no_write = absurd (no_write (write e))
 run_answer status P Q (inr (inr answer)) read write no_read no_write = answer
+
+-- a write that did not fail
+pub done_put : (most : ℕ) (name content : List ℕ) (before after : FolderState) (status : Status) → IsPut most name content before after status →
+    (Rose before.write_faults after.write_faults → ⊥) → (status ≡ OutOfMemory) ⊎ (status ≡ Done)
+done_put most name content before after status (inl wrote) calm = inr (elim wrote.written [ inl done ↦ done.0 | inr failed ↦ absurd (calm failed.1) ])
+done_put most name content before after status (inr wanting) calm = inl wanting.0
 
 -- why a file that is told was not read
 unread_file : (most : ℕ) (IsBad : List ℕ → Status → Type 0) (name content : List ℕ) (before after : FolderState) (status : Status) → Tells before.files name content → (Rose before.read_faults after.read_faults → ⊥) →
@@ -168,5 +174,9 @@ assemble_complete laws name file text before after status (quiet, inl refused) t
     by_refusal 524288 IsBadListing IsText (texts_apart laws) text status (λ s. s ≡ Done) (refused_file 524288 IsBadListing name text before.folder after.folder status told calm.folder refused.1)
 assemble_complete laws name file text before after status (quiet, inr wrote) told calm writes =
     let same = told_text before.folder.files name text wrote.text told wrote.read.holds in
-    by_answer 524288 IsBadListing IsText (texts_apart laws) text status (λ s. s ≡ Done) (subst (λ c. length c ≤ 524288) same wrote.read.short) (wrote.image, subst (λ t. Assembles t wrote.image) same wrote.assembles)
-    (elim wrote.written.written [ inl done ↦ done.0 | inr failed ↦ absurd (writes failed.1) ])
+    elim (done_put 2 file _ before.folder after.folder status wrote.written writes) [
+      | inl wanting ↦ by_refusal 524288 IsBadListing IsText (texts_apart laws) text status (λ s. s ≡ Done) (inl wanting)
+      | inr done ↦
+          by_answer 524288 IsBadListing IsText (texts_apart laws) text status (λ s. s ≡ Done)
+          (subst (λ c. length c ≤ 524288) same wrote.read.short) (wrote.image, subst (λ t. Assembles t wrote.image) same wrote.assembles) done
+    ]

@@ -1,6 +1,6 @@
 -- What a sink holds after several writes.
 use Rattle.std.proofs.Common.{◌≡◌, ℕ, zero, suc, List, [], ◌∷◌, ◌++◌, take, drop, get_or, length, map, ◌-◌, ◌≤◌, arith, Option, Some, None, inl, inr, refl, sym, ap, ◌∙◌, subst, append_assoc}
-use Rattle.std.specs.Prelude.{◌≢◌, Result, Ok, Err}
+use Rattle.std.specs.Prelude.{Result, Ok, Err, ⊤}
 use Rattle.std.specs.Borrow.{Bor}
 use Rattle.std.specs.Io.KnownBytes.{Appends}
 use Rattle.std.proofs.lemmas.List.{append-nil, take_all}
@@ -65,13 +65,22 @@ definition_noted before after result name written known wanted text is same whol
 
 -- whether the note was written decides the answer
 pub noted_ok : (words : List (List ℕ)) (before after : Surroundings) (notes_before notes_after : Stream) (status : Status) (name : List ℕ) →
-    Does (request_of words) before after status name → notes_before.faults ≤ notes_after.faults → Appends notes_before.bytes notes_after.bytes (note_of words status name) →
-    Answers words before after notes_before notes_after status
-noted_ok words before after notes_before notes_after status name does later written = record { status = status; name = name; does = does; noted = (later, inl (refl, written)) }
+    Does (request_of words) before after status name → (status ≡ Done → ⊤ × (notes_after ≡ notes_before)) → notes_before.faults ≤ notes_after.faults →
+    Appends notes_before.bytes notes_after.bytes (note_of words status name) → Answers words before after notes_before notes_after status
+noted_ok words before after notes_before notes_after status name does quiet later written = record {
+  status = status;
+  name = name;
+  does = does;
+  noted = record { quiet = λ done. ((quiet done).1, done); faults = later; written = inl (refl, written) };
+}
 
 pub noted_fault : (words : List (List ℕ)) (before after : Surroundings) (notes_before notes_after : Stream) (status : Status) (name : List ℕ) →
-    Does (request_of words) before after status name → notes_before.faults ≤ notes_after.faults → status ≢ Done →
+    Does (request_of words) before after status name → (status ≡ Done → ⊥ × (notes_after ≡ notes_before)) → notes_before.faults ≤ notes_after.faults →
     AppendsFront notes_before.bytes notes_after.bytes (note_of words status name) → Rose notes_before.faults notes_after.faults →
     Answers words before after notes_before notes_after WriteFault
-noted_fault words before after notes_before notes_after status name does later not_done written rose =
-    record { status = status; name = name; does = does; noted = (later, inr (refl, not_done, written, rose)) }
+noted_fault words before after notes_before notes_after status name does quiet later written rose = record {
+  status = status;
+  name = name;
+  does = does;
+  noted = record { quiet = λ done. absurd (quiet done).0; faults = later; written = inr (refl, written, rose) };
+}

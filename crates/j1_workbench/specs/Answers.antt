@@ -1,5 +1,5 @@
 -- What a call of the workbench does, command by command.
-use Rattle.std.specs.Prelude.{◌≡◌, ◌≢◌, ◌≤◌, ◌⊎◌, ℕ, List, Option, Some, None}
+use Rattle.std.specs.Prelude.{◌≡◌, ◌≤◌, ◌⊎◌, ℕ, List, Option, Some, None}
 use Rattle.std.specs.Io.KnownBytes.{Appends}
 use Rattle.outside_io.specs.Bytes.{AppendsFront}
 use Rattle.outside_io.specs.Causes.{Rose}
@@ -34,12 +34,11 @@ Does (Some (Make seed count)) before after status name = Makes seed count (steps
 Does (Some request) before after status name = (status ≡ NotYet) × (after ≡ before)
 
 -- the notes gain this line, and the answer stands. Where they can't be written, they gain a beginning of it, and the answer is
--- WriteFault; Done has no line
-abbrev pub IsNoted : List ℕ → Stream → Stream → Status → Status → Type 0
-IsNoted note before after status result =
-    (before.faults ≤ after.faults)
-    × (((result ≡ status) × Appends before.bytes after.bytes note)
-    ⊎ ((result ≡ WriteFault) × (status ≢ Done) × AppendsFront before.bytes after.bytes note × Rose before.faults after.faults))
+-- WriteFault. Done has no line, and leaves the notes alone
+pub record IsNoted (note : List ℕ) (before after : Stream) (status result : Status) : Type 0 where
+  pub quiet : status ≡ Done → (after ≡ before) × (result ≡ Done)
+  pub faults : before.faults ≤ after.faults
+  pub written : ((result ≡ status) × Appends before.bytes after.bytes note) ⊎ ((result ≡ WriteFault) × AppendsFront before.bytes after.bytes note × Rose before.faults after.faults)
 
 -- a call with these words: what its command does, the command's own answer, and its note
 pub record Answers (words : List (List ℕ)) (before after : Surroundings) (notes_before notes_after : Stream) (result : Status) : Type 0 where

@@ -8,7 +8,7 @@ use Rattle.j1_assembler.specs.FirstBad.{IsFirstBad}
 use Rattle.j1_workbench.specs.declared.status.Status.{Status}
 use Rattle.j1_workbench.specs.declared.status.Status.TheVariants.{BadListing}
 use Rattle.j1_workbench.specs.Surroundings.{FolderState, Surroundings, IsOnlyRead, IsQuiet}
-use Rattle.j1_workbench.specs.Files.{IsRead, IsRefusedFile, IsWritten, calls_of}
+use Rattle.j1_workbench.specs.Files.{IsRead, IsRefusedFile, IsPut}
 
 -- a text is no assembly text: this is its first bad line
 abbrev pub IsBadListing : List ℕ → Status → Type 0
@@ -25,10 +25,10 @@ pub record WritesAssembled (listing file : List ℕ) (before after : FolderState
   pub image : Content
   pub assembles : Assembles text image
   pub fits : IsImage image
-  pub written : IsWritten 2 file (image_bytes image) before after status
+  pub written : IsPut 2 file (image_bytes image) before after status
 
 -- `asm`: console and out are left alone, and a refused text leaves every file as it was
 unfoldable pub AssemblesFile : List ℕ → List ℕ → Surroundings → Surroundings → Status → Type 0
 AssemblesFile listing file before after status =
     IsQuiet before after
-    × ((IsOnlyRead (calls_of status) before.folder after.folder × IsRefusedListing listing before.folder after.folder status) ⊎ WritesAssembled listing file before.folder after.folder status)
+    × ((IsOnlyRead 1 before.folder after.folder × IsRefusedListing listing before.folder after.folder status) ⊎ WritesAssembled listing file before.folder after.folder status)

@@ -8,6 +8,7 @@ use Rattle.reference_eval.specs.declared.ends.EvalFinish.{EvalFinish}
 use Rattle.reference_eval.specs.declared.ends.EvalFinish.TheVariants as finish
 use Rattle.reference_eval.specs.declared.ends.EvalError.{EvalError}
 use Rattle.reference_eval.specs.declared.ends.EvalError.TheVariants as error
+use Rattle.reference_eval.specs.Outside.{input_of}
 use Rattle.reference_eval.specs.Evaluation.{Evaluates as EvaluatesRun}
 use Rattle.j1_workbench.specs.declared.status.Status.{Status}
 use Rattle.j1_workbench.specs.declared.status.Status.TheVariants.{Done, NotCertified, StepsUsed, InputEnded, Outside, Halted, ReadFault, WriteFault, OutOfMemory, Underflow, Unbalanced}
@@ -59,7 +60,8 @@ pub record EvaluatesProgram (source : List ℕ) (steps : ℕ) (before after : Su
   pub source_is : IsReadSource source before.folder program
   pub result : Result EvalFinish EvalError
   pub status_is : status ≡ status_after result
-  pub evaluates : EvaluatesRun program steps result before.console.bytes after.console.bytes before.console.faults after.console.faults before.out.bytes after.out.bytes before.out.faults after.out.faults
+  pub evaluates : EvaluatesRun program steps result (input_of before.console.bytes before.console.calls) (input_of after.console.bytes after.console.calls)
+      before.console.faults after.console.faults before.out.bytes after.out.bytes before.out.faults after.out.faults
 
 -- `eval`: a refused source leaves console and out alone, and every other is evaluated for at most so many word steps
 unfoldable pub Evaluates : List ℕ → ℕ → Surroundings → Surroundings → Status → List ℕ → Type 0

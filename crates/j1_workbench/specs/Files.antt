@@ -39,12 +39,6 @@ pub record IsWritten (most : ℕ) (name content : List ℕ) (before after : Fold
   pub write_faults : before.write_faults ≤ after.write_faults
   pub absences : before.absences ≤ after.absences
 
--- the same of one write; where memory was wanting, no file has changed
-abbrev pub IsPut : List ℕ → List ℕ → FolderState → FolderState → Status → Type 0
-IsPut name content before after status = IsWritten 1 name content before after status ⊎ ((status ≡ OutOfMemory) × IsOnlyRead 1 before after)
-
--- how often a command that reads one file and writes another may have called the folder where it wrote nothing: for the read, and
--- where memory was wanting perhaps for the write too
-abbrev pub calls_of : Status → ℕ
-calls_of OutOfMemory = 2
-calls_of status = 1
+-- the same; or memory was wanting for the write, and no file has changed
+abbrev pub IsPut : ℕ → List ℕ → List ℕ → FolderState → FolderState → Status → Type 0
+IsPut most name content before after status = IsWritten most name content before after status ⊎ ((status ≡ OutOfMemory) × IsOnlyRead most before after)

@@ -42,7 +42,7 @@ pub fn read_file<F: Folder>(
 pub fn write_file<F: Folder>(alloc: Global, name: &str, content: &[u8], files: &mut F) -> Status
     ensures { let before = folder (F.files files.old) (F.calls files.old) (F.read_faults files.old) (F.write_faults files.old) (F.absences files.old) in
         let after = folder (F.files files.new) (F.calls files.new) (F.read_faults files.new) (F.write_faults files.new) (F.absences files.new) in
-        IsPut name.now content.now before after result }
+        IsPut 1 name.now content.now before after result }
 {
     match files.write(alloc, name, content) {
         Ok(()) => Status::Done,

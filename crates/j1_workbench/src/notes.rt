@@ -1,7 +1,8 @@
 // The line that a status leaves in the notes.
-ghost use Rattle.std.specs.Prelude.{◌≡◌, ◌≢◌, ◌∷◌, [], IsErr, map, string_bytes};
+ghost use Rattle.std.specs.Prelude.{◌≡◌, ◌∷◌, [], IsOk, map, string_bytes};
 ghost use Rattle.outside_io.specs.Causes.{HasCause};
 ghost use Rattle.outside_io.specs.Bytes.{WritesAll};
+ghost use Rattle.j1_workbench.specs.Surroundings.{stream};
 ghost use Rattle.j1_workbench.specs.Notes.{file_named, ended, line, cause_named, uncertified, unbounded, named, note_of};
 
 use crate::answer::named;
@@ -129,7 +130,7 @@ pub fn write_note<N: Sink>(
 ) -> Result<(), Failed>
     ensures bytes { WritesAll (N.held notes.old) (N.held notes.new) result (note_of (map string_bytes words.now) status (named name.now)) }
     ensures cause { HasCause (N.faults notes.old) (N.faults notes.new) result }
-    ensures done { IsErr result → status ≢ Status.Done }
+    ensures quiet { status ≡ Status.Done → IsOk result × (stream (N.held notes.new) (N.calls notes.new) (N.faults notes.new) ≡ stream (N.held notes.old) (N.calls notes.old) (N.faults notes.old)) }
 {
     let mut digits = Buffer::new();
     match status {

@@ -1,5 +1,5 @@
 -- From the steps of a machine to the run of its program.
-use Rattle.std.proofs.Common.{◌≡◌, ◌≤◌, ℕ, ◌-◌, ◌/◌, List, [], ◌∷◌, ◌++◌, map, Option, None, Some, Bool, true, false, refl, sym, ap, subst, ◌∙◌, arith}
+use Rattle.std.proofs.Common.{◌≡◌, ◌+◌, ◌≤◌, ℕ, ◌-◌, ◌/◌, List, [], ◌∷◌, ◌++◌, length, map, Option, None, Some, Bool, true, false, refl, sym, ap, subst, ◌∙◌, arith}
 use Rattle.std.specs.Prelude.{Result, Ok, Err, IfSome}
 use Rattle.std.proofs.lemmas.List.{append-nil}
 use Rattle.std.specs.Io.KnownBytes.{Appends, Consumes}
@@ -20,11 +20,11 @@ use Rattle.reference_eval.specs.declared.ends.Stop.{Stop}
 use Rattle.reference_eval.specs.declared.ends.Stop.TheVariants as stop
 use Rattle.reference_eval.specs.declared.ends.Halt.TheVariants as halt
 use Rattle.reference_eval.specs.Work.{works}
-use Rattle.reference_eval.specs.Outside.{MemoryState, Scene, scene, Shows, Holds, HoldsFront, Written, Reach, Whole, Dry, NotRead, NotWritten, MayBeLeft, Loses, Caused, Leads, Later}
+use Rattle.reference_eval.specs.Outside.{MemoryState, Input, input_of, Scene, scene, Shows, Holds, HoldsFront, Written, Reach, Whole, Dry, NotRead, NotWritten, MayBeLeft, LosesBytes, Loses, asked_in_vain, IsWrittenOut, Caused, Leads, Later}
 use Rattle.reference_eval.specs.Steps.{IsSame}
 use Rattle.reference_eval.specs.Answers.{Answer, Gave, Ended, ReadFailed, WriteFailed, LacksMemory, reach_of}
 use Rattle.reference_eval.specs.Machine.{state_of, RunsTo, Runs, answer_of_step, entry_of, frame_of}
-use Rattle.reference_eval.specs.Evaluation.{RanAs, RanPart, Evaluates, AnswersRun, MayBeLeftBy, finish_of}
+use Rattle.reference_eval.specs.Evaluation.{RanAs, RanPart, Evaluates, AnswersRun, MayBeLeftBy, in_vain, finish_of}
 use Rattle.reference_eval.proofs.Leading.{failed_both}
 
 -- ---- the start
@@ -46,7 +46,7 @@ holds_nothing : (held : Option (List ℕ)) → Holds held held [] []
 holds_nothing None = tt
 holds_nothing (Some old) = ([], sym (append-nil old), refl)
 
-begins_shown : (p : SourceProgram) (memory : MemoryState) (m : Machine) (input : List ℕ) (left : Option (List ℕ)) (reads : ℕ) (held : Option (List ℕ)) (writes : ℕ) → Begins p memory m → Shows held
+begins_shown : (p : SourceProgram) (memory : MemoryState) (m : Machine) (input : List ℕ) (left : Input) (reads : ℕ) (held : Option (List ℕ)) (writes : ℕ) → Begins p memory m → Shows held
     (scene memory left reads held writes) (first_world p input)
 begins_shown p memory m input left reads held writes b =
     subst (λ x. Shows held (scene x left reads held writes) (first_world p input)) (sym b.memory_is) (record { start = refl; space = refl; written = holds_nothing held })
@@ -71,29 +71,35 @@ all_written : (failed : Bool) (before now : Option (List ℕ)) (waiting printed 
 all_written true before now waiting printed e f h = absurd cc
 all_written false before now waiting printed e f h = appended before now printed (subst (λ x. Holds before now x printed) f h)
 
-nothing_taken : (took : List ℕ) → Loses Whole took (Some []) (Some []) → took ≡ []
+abbrev no_input : Input
+no_input = input_of (Some []) 0
+
+nothing_taken : (took : List ℕ) → LosesBytes Whole took (Some []) (Some []) → took ≡ []
 nothing_taken [] h = refl
 nothing_taken (x ∷ took) h = absurd cc
 
 -- flushing keeps the world
 pub record Flushes (m n : MemoryState) (held held' : Option (List ℕ)) (writes writes' : ℕ) : Type 0 where
-  pub shows : (before : Option (List ℕ)) (w : World) (left left' : Option (List ℕ)) (reads reads' : ℕ) → Shows before (scene m left reads held writes) w → Shows before (scene n left' reads' held' writes') w
+  pub shows : (before : Option (List ℕ)) (w : World) (left left' : Input) (reads reads' : ℕ) → Shows before (scene m left reads held writes) w → Shows before (scene n left' reads' held' writes') w
   pub faults : writes ≤ writes'
   pub failed : n.failed ≡ true → m.failed ≡ false → Rose writes writes'
+  pub well : m.waiting ≡ [] → m.failed ≡ false → n.failed ≡ false
 
-pub flushes : (m n : MemoryState) (held held' : Option (List ℕ)) (writes writes' : ℕ) → Leads IsSame Whole (scene m (Some []) 0 held writes) (scene n (Some []) 0 held' writes') → Flushes m n held held' writes writes'
-flushes m n held held' writes writes' l = record {
+pub flushes : (m n : MemoryState) (held held' : Option (List ℕ)) (writes writes' : ℕ) → Leads IsSame Whole (scene m no_input 0 held writes) (scene n no_input 0 held' writes') → (m.waiting ≡ [] → m.failed ≡ false → n.failed ≡ false) →
+    Flushes m n held held' writes writes'
+flushes m n held held' writes writes' l well = record {
   shows = λ before w left left' reads reads' h.
-      let x = l.meant before w w.input (ap (λ t. t ++ w.input) (sym (nothing_taken l.took l.loses))) tt (record { start = h.start; space = h.space; written = h.written }) in
-      let s : Shows before (scene n (Some []) 0 held' writes') w = subst (λ v. Shows before (scene n (Some []) 0 held' writes') v) x.is_reached x.shows in
+      let x = l.meant before w w.input (ap (λ t. t ++ w.input) (sym (nothing_taken l.took l.loses.bytes))) tt (record { start = h.start; space = h.space; written = h.written }) in
+      let s : Shows before (scene n no_input 0 held' writes') w = subst (λ v. Shows before (scene n no_input 0 held' writes') v) x.is_reached x.shows in
       record { start = s.start; space = s.space; written = s.written };
   faults = l.faults.writes;
   failed = l.faults.failed;
+  well = well;
 }
 
 -- ---- what was taken
 
-consumed : (reach : Reach) (took : List ℕ) (left left' : Option (List ℕ)) → Loses reach took left left' → Consumes left left' took
+consumed : (reach : Reach) (took : List ℕ) (left left' : Option (List ℕ)) → LosesBytes reach took left left' → Consumes left left' took
 consumed reach took None left' h = tt
 consumed reach took (Some old) None h = h
 consumed Whole took (Some old) (Some new) h = h
@@ -101,7 +107,7 @@ consumed Dry took (Some old) (Some new) h = h.0
 consumed NotRead took (Some old) (Some new) h = h
 consumed NotWritten took (Some old) (Some new) h = h
 
-dried : (took : List ℕ) (left left' : Option (List ℕ)) → Loses Dry took left left' → IfSome left (λ bytes. left' ≡ Some [])
+dried : (took : List ℕ) (left left' : Option (List ℕ)) → LosesBytes Dry took left left' → IfSome left (λ bytes. left' ≡ Some [])
 dried took None left' h = tt
 dried took (Some old) None h = absurd h
 dried took (Some old) (Some new) h = ap (λ x. Some x) h.1
@@ -143,7 +149,7 @@ may_be_none NotWritten = refl
 -- ---- the whole
 
 -- a later world, of a whole run
-exact : (p : SourceProgram) (k : ℕ) (m0 : Machine) (memory memory1 memory2 : MemoryState) (left' : Option (List ℕ)) (reads' : ℕ) (held held1 held2 : Option (List ℕ)) (writes1 writes2 : ℕ)
+exact : (p : SourceProgram) (k : ℕ) (m0 : Machine) (memory memory1 memory2 : MemoryState) (left' : Input) (reads' : ℕ) (held held1 held2 : Option (List ℕ)) (writes1 writes2 : ℕ)
     (input rest : List ℕ) (o : World → Outcome) (end : Option End) →
     Begins p memory m0 → Flushes memory1 memory2 held1 held2 writes1 writes2 → memory2.failed ≡ false → memory2.waiting ≡ [] → ((w : World) → end_of_run (o w) ≡ end) → ((w : World) → world_of (o w) ≡ w) →
     Later (λ later. steps p k (state_of m0 (first_world p input)) ≡ o later) held (scene memory1 left' reads' held1 writes1) rest → RanAs p k input rest end held held2
@@ -152,7 +158,7 @@ exact p k m0 memory memory1 memory2 left' reads' held held1 held2 writes1 writes
     (subst (λ w. Appends held held2 w.printed) (sym (same l.world)) (all_written memory2.failed held held2 memory2.waiting l.world.printed e w (f.shows held l.world left' left' reads' reads' l.shows).written))
 
 -- and of a part of one
-partly : {A : Type 0} (a : Answer A) (p : SourceProgram) (k : ℕ) (m0 n : Machine) (memory memory1 memory2 : MemoryState) (left' : Option (List ℕ)) (reads' : ℕ) (held held1 held2 : Option (List ℕ))
+partly : {A : Type 0} (a : Answer A) (p : SourceProgram) (k : ℕ) (m0 n : Machine) (memory memory1 memory2 : MemoryState) (left' : Input) (reads' : ℕ) (held held1 held2 : Option (List ℕ))
     (writes1 writes2 : ℕ) (input rest : List ℕ) →
     Begins p memory m0 → Flushes memory1 memory2 held1 held2 writes1 writes2 →
     Later (λ later. RunsTo a p k (state_of m0 (first_world p input)) (state_of n later) later) held (scene memory1 left' reads' held1 writes1) rest → RanPart p k input rest held held2
@@ -161,7 +167,7 @@ partly a p k m0 n memory memory1 memory2 left' reads' held held1 held2 writes1 w
     ran_part p memory m0 k input rest l.world held held2 b q.0 q.1 q.2 l.left (in_front memory2.failed held held2 memory2.waiting l.world.printed (f.shows held l.world left' left' reads' reads' l.shows).written)
 
 -- on the bytes that were taken alone
-on_taken : (reached : World → World → Type 0) (reach : Reach) (p : SourceProgram) (m0 : Machine) (memory : MemoryState) (left : Option (List ℕ)) (reads : ℕ) (held : Option (List ℕ)) (writes : ℕ)
+on_taken : (reached : World → World → Type 0) (reach : Reach) (p : SourceProgram) (m0 : Machine) (memory : MemoryState) (left : Input) (reads : ℕ) (held : Option (List ℕ)) (writes : ℕ)
     (t : Scene) → Begins p memory m0 → (l : Leads reached reach (scene memory left reads held writes) t) → Later (reached (first_world p l.took)) held t []
 on_taken reached reach p m0 memory left reads held writes t b l = l.meant held (first_world p l.took) [] (sym (append-nil l.took)) (may_be_none reach) (begins_shown p memory m0 l.took left reads held writes b)
 
@@ -169,14 +175,23 @@ rose_at_last : (memory memory1 memory2 : MemoryState) (writes writes1 writes2 : 
     Rose writes writes1) → (memory2.failed ≡ true → memory1.failed ≡ false → Rose writes1 writes2) → memory2.failed ≡ true → Rose writes writes2
 rose_at_last memory memory1 memory2 writes writes1 writes2 e h i f g t = failed_both memory1.failed writes writes1 writes2 h i (λ x. f x e) (λ x. g t x)
 
+-- where something waits to be written at last, or a write has failed, the last question was answered
+unasked : (reach : Reach) (took : List ℕ) (left left' : Input) (s t : Scene) → Loses reach took left left' → Caused reach s t → (IsWrittenOut t.memory → ⊥) → left'.calls ≤ left.calls + length took + 0
+unasked Whole took left left' s t l c wanting = l.calls
+unasked Dry took left left' s t l c wanting = absurd (wanting c)
+unasked NotRead took left left' s t l c wanting = absurd (wanting c.1)
+unasked NotWritten took left left' s t l c wanting = l.calls
+
 -- out could not be written
-pub not_all_written : (p : SourceProgram) (k : ℕ) (came : Result (Unit {0}) Stop) (m0 n : Machine) (memory memory1 memory2 : MemoryState) (left left' : Option (List ℕ)) (reads reads' : ℕ)
+pub not_all_written : (p : SourceProgram) (k : ℕ) (came : Result (Unit {0}) Stop) (m0 n : Machine) (memory memory1 memory2 : MemoryState) (left left' : Input) (reads reads' : ℕ)
     (held held1 held2 : Option (List ℕ)) (writes writes1 writes2 : ℕ) →
     Begins p memory m0 → Runs p k came m0 n (scene memory left reads held writes) (scene memory1 left' reads' held1 writes1) → Flushes memory1 memory2 held1 held2 writes1 writes2 → memory2.failed ≡ true →
     Evaluates p k (Err error.Write) left left' reads reads' held held2 writes writes2
 not_all_written p k came m0 n memory memory1 memory2 left left' reads reads' held held1 held2 writes writes1 writes2 b r f t = record {
   took = r.leads.took;
-  consumes = consumed (reach_of (answer_of_step came)) r.leads.took left left' r.leads.loses;
+  consumes = consumed (reach_of (answer_of_step came)) r.leads.took left.bytes left'.bytes r.leads.loses.bytes;
+  calls = unasked (reach_of (answer_of_step came)) r.leads.took left left' (scene memory left reads held writes) (scene memory1 left' reads' held1 writes1) r.leads.loses r.leads.faults.caused
+      (λ out. absurd (let e = f.well out.waiting out.well in cc));
   ended = λ e. absurd cc;
   answers = λ rest h. partly (answer_of_step came) p k m0 n memory memory1 memory2 left' reads' held held1 held2 writes1 writes2 r.leads.took [] b f (on_taken _ _ p m0 memory left reads held writes _ b r.leads);
   read_cause = λ e. absurd cc;
@@ -189,7 +204,7 @@ nothing_consumed : (left : Option (List ℕ)) → Consumes left left []
 nothing_consumed None = tt
 nothing_consumed (Some old) = refl
 
-ends_dry : (came : Result (Unit {0}) Stop) (took : List ℕ) (left left' : Option (List ℕ)) → Loses (reach_of (answer_of_step came)) took left left' → finish_of came ≡ Ok (finish.Ended end.InputEnded) → IfSome left (λ bytes. left' ≡ Some [])
+ends_dry : (came : Result (Unit {0}) Stop) (took : List ℕ) (left left' : Option (List ℕ)) → LosesBytes (reach_of (answer_of_step came)) took left left' → finish_of came ≡ Ok (finish.Ended end.InputEnded) → IfSome left (λ bytes. left' ≡ Some [])
 ends_dry (Ok d) took left left' h e = absurd cc
 ends_dry (Err (stop.Halt (halt.Ended (end.Halted n)))) took left left' h e = absurd cc
 ends_dry (Err (stop.Halt (halt.Ended end.InputEnded))) took left left' h e = dried took left left' h
@@ -200,10 +215,21 @@ ends_dry (Err stop.Underflow) took left left' h e = absurd cc
 ends_dry (Err stop.Unbalanced) took left left' h e = absurd cc
 ends_dry (Err stop.OutOfMemory) took left left' h e = absurd cc
 
+vain_as_finished : (came : Result (Unit {0}) Stop) → asked_in_vain (reach_of (answer_of_step came)) ≤ in_vain (finish_of came)
+vain_as_finished (Ok d) = omega arith
+vain_as_finished (Err (stop.Halt (halt.Ended (end.Halted n)))) = omega arith
+vain_as_finished (Err (stop.Halt (halt.Ended end.InputEnded))) = omega arith
+vain_as_finished (Err (stop.Halt (halt.Ended (end.Outside n)))) = omega arith
+vain_as_finished (Err (stop.Halt halt.Read)) = omega arith
+vain_as_finished (Err (stop.Halt halt.Write)) = omega arith
+vain_as_finished (Err stop.Underflow) = omega arith
+vain_as_finished (Err stop.Unbalanced) = omega arith
+vain_as_finished (Err stop.OutOfMemory) = omega arith
+
 read_rose : (came : Result (Unit {0}) Stop) (s t : Scene) → Caused (reach_of (answer_of_step came)) s t → finish_of came ≡ Err error.Read → Rose s.read_faults t.read_faults
 read_rose (Ok d) s t h e = absurd cc
 read_rose (Err (stop.Halt (halt.Ended x))) s t h e = absurd cc
-read_rose (Err (stop.Halt halt.Read)) s t h e = h
+read_rose (Err (stop.Halt halt.Read)) s t h e = h.0
 read_rose (Err (stop.Halt halt.Write)) s t h e = absurd cc
 read_rose (Err stop.Underflow) s t h e = absurd cc
 read_rose (Err stop.Unbalanced) s t h e = absurd cc
@@ -222,11 +248,11 @@ rose_before_flush : (x y z : ℕ) {b : Bool} → b ≡ true → (b ≡ true → 
 rose_before_flush x y z e h k = let r = h e in omega (arith, r)
 
 -- at a later world of an input of which these bytes are left
-on_all : (reached : World → World → Type 0) (reach : Reach) (p : SourceProgram) (m0 : Machine) (memory : MemoryState) (left : Option (List ℕ)) (reads : ℕ) (held : Option (List ℕ)) (writes : ℕ)
+on_all : (reached : World → World → Type 0) (reach : Reach) (p : SourceProgram) (m0 : Machine) (memory : MemoryState) (left : Input) (reads : ℕ) (held : Option (List ℕ)) (writes : ℕ)
     (t : Scene) (rest : List ℕ) → Begins p memory m0 → (l : Leads reached reach (scene memory left reads held writes) t) → MayBeLeft reach rest → Later (reached (first_world p (l.took ++ rest))) held t rest
 on_all reached reach p m0 memory left reads held writes t rest b l h = l.meant held (first_world p (l.took ++ rest)) rest refl h (begins_shown p memory m0 (l.took ++ rest) left reads held writes b)
 
-well_answered : (p : SourceProgram) (k : ℕ) (came : Result (Unit {0}) Stop) (m0 n : Machine) (memory memory1 memory2 : MemoryState) (left left' : Option (List ℕ)) (reads reads' : ℕ)
+well_answered : (p : SourceProgram) (k : ℕ) (came : Result (Unit {0}) Stop) (m0 n : Machine) (memory memory1 memory2 : MemoryState) (left left' : Input) (reads reads' : ℕ)
     (held held1 held2 : Option (List ℕ)) (writes writes1 writes2 : ℕ) →
     Begins p memory m0 → (r : Runs p k came m0 n (scene memory left reads held writes) (scene memory1 left' reads' held1 writes1)) → Flushes memory1 memory2 held1 held2 writes1 writes2 → memory2.failed ≡ false → memory2.waiting ≡ [] →
     (rest : List ℕ) → MayBeLeftBy (finish_of came) rest → AnswersRun (finish_of came) p k r.leads.took rest held held2
@@ -256,11 +282,12 @@ well_answered p k (Err stop.OutOfMemory) m0 n memory memory1 memory2 left left' 
     partly {A = Unit {0}} LacksMemory p k m0 n memory memory1 memory2 left' reads' held held1 held2 writes1 writes2 _ rest b f (on_all _ _ p m0 memory left reads held writes _ rest b r.leads tt)
 
 -- memory was wanting before the first step
-pub no_start : (p : SourceProgram) (k : ℕ) (left : Option (List ℕ)) (reads : ℕ) (held : Option (List ℕ)) (writes : ℕ) → Evaluates p k (Err error.OutOfMemory) left left reads reads held held writes writes
+pub no_start : (p : SourceProgram) (k : ℕ) (left : Input) (reads : ℕ) (held : Option (List ℕ)) (writes : ℕ) → Evaluates p k (Err error.OutOfMemory) left left reads reads held held writes writes
 unfolding source_run steps
 no_start p k left reads held writes = record {
   took = [];
-  consumes = nothing_consumed left;
+  consumes = nothing_consumed left.bytes;
+  calls = omega arith;
   ended = λ e. absurd cc;
   answers = λ rest h. record { made = 0; within = omega arith; left_is = refl; front = front_of held held [] [] (holds_nothing held) };
   read_cause = λ e. absurd cc;
@@ -270,15 +297,16 @@ no_start p k left reads held writes = record {
 }
 
 -- all that was printed was written
-pub all_well : (p : SourceProgram) (k : ℕ) (came : Result (Unit {0}) Stop) (m0 n : Machine) (memory memory1 memory2 : MemoryState) (left left' : Option (List ℕ)) (reads reads' : ℕ)
+pub all_well : (p : SourceProgram) (k : ℕ) (came : Result (Unit {0}) Stop) (m0 n : Machine) (memory memory1 memory2 : MemoryState) (left left' : Input) (reads reads' : ℕ)
     (held held1 held2 : Option (List ℕ)) (writes writes1 writes2 : ℕ) →
     Begins p memory m0 → Runs p k came m0 n (scene memory left reads held writes) (scene memory1 left' reads' held1 writes1) → Flushes memory1 memory2 held1 held2 writes1 writes2 →
     memory2.failed ≡ false → (memory2.failed ≡ false → memory2.waiting ≡ []) →
     Evaluates p k (finish_of came) left left' reads reads' held held2 writes writes2
 all_well p k came m0 n memory memory1 memory2 left left' reads reads' held held1 held2 writes writes1 writes2 b r f e w = record {
   took = r.leads.took;
-  consumes = consumed (reach_of (answer_of_step came)) r.leads.took left left' r.leads.loses;
-  ended = ends_dry came r.leads.took left left' r.leads.loses;
+  consumes = consumed (reach_of (answer_of_step came)) r.leads.took left.bytes left'.bytes r.leads.loses.bytes;
+  calls = let most = vain_as_finished came in omega (arith, r.leads.loses.calls, most);
+  ended = ends_dry came r.leads.took left.bytes left'.bytes r.leads.loses.bytes;
   answers = well_answered p k came m0 n memory memory1 memory2 left left' reads reads' held held1 held2 writes writes1 writes2 b r f e (w e);
   read_cause = read_rose came (scene memory left reads held writes) (scene memory1 left' reads' held1 writes1) r.leads.faults.caused;
   write_cause = λ x. rose_before_flush writes writes1 writes2 {b = memory1.failed} (write_rose came memory1 (scene memory left reads held writes)
@@ -287,8 +315,7 @@ all_well p k came m0 n memory memory1 memory2 left left' reads reads' held held1
   writes_failed = omega (arith, r.leads.faults.writes, f.faults);
 }
 
-pub all_well_as : (p : SourceProgram) (k : ℕ) (result : Result EvalFinish EvalError) (came : Result (Unit {0}) Stop) (m0 n : Machine) (memory memory1 memory2 : MemoryState) (left left' : Option
-    (List ℕ)) (reads reads' : ℕ) (held held1 held2 : Option (List ℕ)) (writes writes1 writes2 : ℕ) →
+pub all_well_as : (p : SourceProgram) (k : ℕ) (result : Result EvalFinish EvalError) (came : Result (Unit {0}) Stop) (m0 n : Machine) (memory memory1 memory2 : MemoryState) (left left' : Input) (reads reads' : ℕ) (held held1 held2 : Option (List ℕ)) (writes writes1 writes2 : ℕ) →
     result ≡ finish_of came → Begins p memory m0 → Runs p k came m0 n (scene memory left reads held writes) (scene memory1 left' reads' held1 writes1) →
     Flushes memory1 memory2 held1 held2 writes1 writes2 → memory2.failed ≡ false → (memory2.failed ≡ false → memory2.waiting ≡ []) →
     Evaluates p k result left left' reads reads' held held2 writes writes2

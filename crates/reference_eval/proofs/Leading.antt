@@ -1,22 +1,26 @@
 -- What leads on from scene to scene.
-use Rattle.std.proofs.Common.{◌≡◌, ◌≤◌, ℕ, List, [], ◌++◌, Option, Some, None, Bool, true, false, refl, sym, ap, ◌∙◌, append_assoc, arith}
+use Rattle.std.proofs.Common.{◌≡◌, ◌+◌, ◌≤◌, ℕ, List, [], ◌++◌, length, Option, Some, None, Bool, true, false, refl, sym, ap, ◌∙◌, append_assoc, arith}
+use Rattle.std.proofs.lemmas.List.{length-append}
 use Rattle.outside_io.specs.Causes.{Rose}
 use Rattle.forth_program.specs.State.{World}
-use Rattle.reference_eval.specs.Outside.{Scene, Shows, Reach, Whole, Dry, NotRead, NotWritten, Loses, Caused, Faults, Leads}
+use Rattle.reference_eval.specs.Outside.{Input, Scene, Shows, Reach, Whole, Dry, NotRead, NotWritten, LosesBytes, Loses, asked_in_vain, Caused, Faults, Leads}
 
 -- ---- nothing changes outside
 
 no_faults : (s : Scene) → Faults Whole s s
 no_faults s = record { reads = omega arith; writes = omega arith; failed = λ e f. absurd cc; caused = tt }
 
-pub loses_nothing : (left : Option (List ℕ)) → Loses Whole [] left left
-loses_nothing None = tt
-loses_nothing (Some bytes) = refl
+no_bytes_lost : (bytes : Option (List ℕ)) → LosesBytes Whole [] bytes bytes
+no_bytes_lost None = tt
+no_bytes_lost (Some bytes) = refl
+
+pub loses_nothing : (input : Input) → Loses Whole [] input input
+loses_nothing input = record { bytes = no_bytes_lost input.bytes; calls = omega arith }
 
 pub stays : (reached : World → World → Type 0) (s : Scene) → ((before : Option (List ℕ)) (w : World) → Shows before s w → reached w w) → Leads reached Whole s s
 stays reached s here = record {
   took = [];
-  loses = loses_nothing s.left;
+  loses = loses_nothing s.input;
   faults = no_faults s;
   meant = λ before w rest e m h. record { world = w; is_reached = here before w h; shows = h; left = e };
 }
@@ -33,14 +37,19 @@ leads_as reached other reach s t same l = record {
 
 -- ---- one after the other
 
-loses_both : (reach : Reach) (a b : List ℕ) (x y z : Option (List ℕ)) → Loses Whole a x y → Loses reach b y z → Loses reach (a ++ b) x z
-loses_both reach a b None y z h k = tt
-loses_both reach a b (Some x) None z h k = absurd h
-loses_both reach a b (Some x) (Some y) None h k = k
-loses_both Whole a b (Some x) (Some y) (Some z) h k = h ∙ ap (λ t. a ++ t) k ∙ sym (append_assoc a b z)
-loses_both Dry a b (Some x) (Some y) (Some z) h k = (h ∙ ap (λ t. a ++ t) k.0 ∙ sym (append_assoc a b z), k.1)
-loses_both NotRead a b (Some x) (Some y) (Some z) h k = h ∙ ap (λ t. a ++ t) k ∙ sym (append_assoc a b z)
-loses_both NotWritten a b (Some x) (Some y) (Some z) h k = h ∙ ap (λ t. a ++ t) k ∙ sym (append_assoc a b z)
+bytes_both : (reach : Reach) (a b : List ℕ) (x y z : Option (List ℕ)) → LosesBytes Whole a x y → LosesBytes reach b y z → LosesBytes reach (a ++ b) x z
+bytes_both reach a b None y z h k = tt
+bytes_both reach a b (Some x) None z h k = absurd h
+bytes_both reach a b (Some x) (Some y) None h k = k
+bytes_both Whole a b (Some x) (Some y) (Some z) h k = h ∙ ap (λ t. a ++ t) k ∙ sym (append_assoc a b z)
+bytes_both Dry a b (Some x) (Some y) (Some z) h k = (h ∙ ap (λ t. a ++ t) k.0 ∙ sym (append_assoc a b z), k.1)
+bytes_both NotRead a b (Some x) (Some y) (Some z) h k = h ∙ ap (λ t. a ++ t) k ∙ sym (append_assoc a b z)
+bytes_both NotWritten a b (Some x) (Some y) (Some z) h k = h ∙ ap (λ t. a ++ t) k ∙ sym (append_assoc a b z)
+
+loses_both : (reach : Reach) (a b : List ℕ) (x y z : Input) → Loses Whole a x y → Loses reach b y z → Loses reach (a ++ b) x z
+loses_both reach a b x y z h k =
+    let joined : length (a ++ b) ≡ length a + length b = length-append a b in
+    record { bytes = bytes_both reach a b x.bytes y.bytes z.bytes h.bytes k.bytes; calls = omega (arith, h.calls, k.calls, joined) }
 
 rose_before : (a b c : ℕ) → a ≤ b → Rose b c → Rose a c
 rose_before a b c h r = omega arith
@@ -54,8 +63,8 @@ failed_both false x y z h k f g = rose_before x y z h (g refl)
 
 caused_both : (reach : Reach) (s t u : Scene) → s.read_faults ≤ t.read_faults → Caused reach t u → Caused reach s u
 caused_both Whole s t u h c = tt
-caused_both Dry s t u h c = tt
-caused_both NotRead s t u h c = rose_before s.read_faults t.read_faults u.read_faults h c
+caused_both Dry s t u h c = c
+caused_both NotRead s t u h c = (rose_before s.read_faults t.read_faults u.read_faults h c.0, c.1)
 caused_both NotWritten s t u h c = c
 
 faults_both : (reach : Reach) (s t u : Scene) → Faults Whole s t → Faults reach t u → Faults reach s u
@@ -70,7 +79,7 @@ pub leads_then : (first second both : World → World → Type 0) (reach : Reach
     Leads first Whole s t → Leads second reach t u → Leads both reach s u
 leads_then first second both reach s t u join l k = record {
   took = l.took ++ k.took;
-  loses = loses_both reach l.took k.took s.left t.left u.left l.loses k.loses;
+  loses = loses_both reach l.took k.took s.input t.input u.input l.loses k.loses;
   faults = faults_both reach s t u l.faults k.faults;
   meant = λ before w rest e m h.
       let x = l.meant before w (k.took ++ rest) (e ∙ append_assoc l.took k.took rest) tt h in

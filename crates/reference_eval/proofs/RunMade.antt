@@ -12,7 +12,7 @@ use Rattle.reference_eval.specs.declared.ends.Stop.{Stop}
 use Rattle.reference_eval.specs.declared.ends.Stop.TheVariants as stop
 use Rattle.reference_eval.specs.declared.ends.Halt.TheVariants as halt
 use Rattle.reference_eval.specs.Ends.{end_of}
-use Rattle.reference_eval.specs.Outside.{Scene, Leads, Loses, Whole, NotWritten}
+use Rattle.reference_eval.specs.Outside.{Input, Scene, Leads, LosesBytes, Loses, Whole, NotWritten}
 use Rattle.reference_eval.specs.Answers.{reach_of, stopped}
 use Rattle.reference_eval.specs.Machine.{state_of, StepsTo, Makes, RunsTo, Runs}
 use Rattle.reference_eval.proofs.Leading.{stays, leads_as, leads_then}
@@ -68,17 +68,20 @@ broken_off p n k m0 m m' r r' x s t u compose stay h e f made makes =
       leads = leads_then _ _ _ (reach_of (stopped {A = Unit {0}} x)) s t u (λ w between later a b. off p n k x (state_of m0 w) m (state_of m' later) between later compose stay h a b) made.leads k'.leads;
     })
 
-narrow_loss : (took : List ℕ) (old new : Option (List ℕ)) → Loses Whole took old new → Loses NotWritten took old new
-narrow_loss took None new h = tt
-narrow_loss took (Some old) None h = h
-narrow_loss took (Some old) (Some new) h = h
+narrow_bytes : (took : List ℕ) (old new : Option (List ℕ)) → LosesBytes Whole took old new → LosesBytes NotWritten took old new
+narrow_bytes took None new h = tt
+narrow_bytes took (Some old) None h = h
+narrow_bytes took (Some old) (Some new) h = h
+
+narrow_loss : (took : List ℕ) (old new : Input) → Loses Whole took old new → Loses NotWritten took old new
+narrow_loss took old new h = record { bytes = narrow_bytes took old.bytes new.bytes h.bytes; calls = h.calls }
 
 -- a write has failed
 pub write_failed : (p : SourceProgram) (n k : ℕ) (m0 m : Machine) (s t : Scene) → n ≤ k → t.memory.failed ≡ true → Made p n m0 m s t → Runs {U = Unit {0}} p k (Err (stop.Halt halt.Write)) m0 m s t
 write_failed p n k m0 m s t h f made = record {
   leads = record {
     took = made.leads.took;
-    loses = narrow_loss made.leads.took s.left t.left made.leads.loses;
+    loses = narrow_loss made.leads.took s.input t.input made.leads.loses;
     faults = record { reads = made.leads.faults.reads; writes = made.leads.faults.writes; failed = made.leads.faults.failed; caused = f };
     meant = λ before w rest e x shows. let l = made.leads.meant before w rest e tt shows in record { world = l.world; is_reached = (n, h, ap world_of l.is_reached); shows = l.shows; left = l.left };
   };

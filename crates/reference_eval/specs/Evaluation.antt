@@ -1,6 +1,6 @@
 -- What an evaluation answers and leaves, by the run of its program.
 -- `None` in place of bytes means that an object does not tell its bytes.
-use Rattle.std.specs.Prelude.{ℕ, ◌≡◌, ◌≤◌, List, [], ◌++◌, Option, Some, None, IfSome, Result, Ok, Err, ⊤}
+use Rattle.std.specs.Prelude.{ℕ, ◌≡◌, ◌+◌, ◌≤◌, List, [], ◌++◌, length, Option, Some, None, IfSome, Result, Ok, Err, ⊤}
 use Rattle.std.specs.Io.KnownBytes.{Appends, Consumes}
 use Rattle.outside_io.specs.Causes.{Rose}
 use Rattle.forth_program.specs.State as run
@@ -15,7 +15,7 @@ use Rattle.reference_eval.specs.declared.ends.Halt.TheVariants as halt
 use Rattle.reference_eval.specs.declared.ends.Stop.{Stop}
 use Rattle.reference_eval.specs.declared.ends.Stop.TheVariants as stop
 use Rattle.reference_eval.specs.Ends.{end_of}
-use Rattle.reference_eval.specs.Outside.{HoldsFront}
+use Rattle.reference_eval.specs.Outside.{Input, HoldsFront}
 
 -- the end of a run that an evaluation finishes with; StepsUsed has none
 abbrev pub end_told : EvalFinish → Option run.End
@@ -51,14 +51,21 @@ AnswersRun (Err error.Read) p steps took rest before now = RanAs p steps took []
 AnswersRun (Err error.Write) p steps took rest before now = RanPart p steps took [] before now
 AnswersRun (Err error.OutOfMemory) p steps took rest before now = RanPart p steps (took ++ rest) rest before now
 
+-- a question to the console that no byte answered: it failed, or the input had ended
+abbrev pub in_vain : Result EvalFinish EvalError → ℕ
+in_vain (Ok (finish.Ended end.InputEnded)) = 1
+in_vain (Err error.Read) = 1
+in_vain result = 0
+
 -- an evaluation of at most so many word steps: what the console has left and out holds before and after it, and how often a read
--- and a write failed
+-- and a write failed. The console was asked at most once for each byte that it gave, and once in vain
 pub record Evaluates (p : SourceProgram) (steps : ℕ) (result : Result EvalFinish EvalError)
-    (left_before left_after : Option (List ℕ)) (reads_failed_before reads_failed_after : ℕ)
+    (input_before input_after : Input) (reads_failed_before reads_failed_after : ℕ)
     (held_before held_after : Option (List ℕ)) (writes_failed_before writes_failed_after : ℕ) : Type 0 where
   pub took : List ℕ
-  pub consumes : Consumes left_before left_after took
-  pub ended : result ≡ Ok (finish.Ended end.InputEnded) → IfSome left_before (λ bytes. left_after ≡ Some [])
+  pub consumes : Consumes input_before.bytes input_after.bytes took
+  pub calls : input_after.calls ≤ input_before.calls + length took + in_vain result
+  pub ended : result ≡ Ok (finish.Ended end.InputEnded) → IfSome input_before.bytes (λ bytes. input_after.bytes ≡ Some [])
   pub answers : (rest : List ℕ) → MayBeLeftBy result rest → AnswersRun result p steps took rest held_before held_after
   pub read_cause : result ≡ Err error.Read → Rose reads_failed_before reads_failed_after
   pub write_cause : result ≡ Err error.Write → Rose writes_failed_before writes_failed_after

@@ -1,6 +1,6 @@
 -- Data space, console and output beside the world of a source run.
 -- `None` in place of bytes means that an object does not tell its bytes.
-use Rattle.std.specs.Prelude.{ℕ, ◌≡◌, ◌≤◌, Bool, true, false, List, [], ◌++◌, Option, Some, None, ⊤}
+use Rattle.std.specs.Prelude.{ℕ, ◌≡◌, ◌+◌, ◌≤◌, Bool, true, false, List, [], ◌++◌, length, Option, Some, None, ⊤}
 use Rattle.outside_io.specs.Causes.{Rose}
 use Rattle.forth_program.specs.State.{World}
 
@@ -12,16 +12,24 @@ pub record MemoryState : Type 0 where
   pub waiting : List ℕ
   pub failed : Bool
 
+-- what contracts see of a console: the bytes left, and how often it was asked
+pub record Input : Type 0 where
+  pub bytes : Option (List ℕ)
+  pub calls : ℕ
+
+abbrev pub input_of : Option (List ℕ) → ℕ → Input
+input_of bytes calls = record { bytes = bytes; calls = calls }
+
 -- a memory with a console and an output: the input left, what out holds, and how often a read and a write failed
 pub record Scene : Type 0 where
   pub memory : MemoryState
-  pub left : Option (List ℕ)
+  pub input : Input
   pub read_faults : ℕ
   pub held : Option (List ℕ)
   pub write_faults : ℕ
 
-abbrev pub scene : MemoryState → Option (List ℕ) → ℕ → Option (List ℕ) → ℕ → Scene
-scene memory left read_faults held write_faults = record { memory = memory; left = left; read_faults = read_faults; held = held; write_faults = write_faults }
+abbrev pub scene : MemoryState → Input → ℕ → Option (List ℕ) → ℕ → Scene
+scene memory input read_faults held write_faults = record { memory = memory; input = input; read_faults = read_faults; held = held; write_faults = write_faults }
 
 -- known bytes that were before are now followed by what was printed, but for what waits
 abbrev pub Holds : Option (List ℕ) → Option (List ℕ) → List ℕ → List ℕ → Type 0
@@ -62,18 +70,35 @@ MayBeLeft NotRead rest = rest ≡ []
 MayBeLeft NotWritten rest = rest ≡ []
 
 -- an input that is told has lost these bytes, and has none left where it has ended
-abbrev pub Loses : Reach → List ℕ → Option (List ℕ) → Option (List ℕ) → Type 0
-Loses reach took None new = ⊤
-Loses reach took (Some old) None = ⊥
-Loses Dry took (Some old) (Some new) = (old ≡ took ++ new) × (new ≡ [])
-Loses reach took (Some old) (Some new) = old ≡ took ++ new
+abbrev pub LosesBytes : Reach → List ℕ → Option (List ℕ) → Option (List ℕ) → Type 0
+LosesBytes reach took None new = ⊤
+LosesBytes reach took (Some old) None = ⊥
+LosesBytes Dry took (Some old) (Some new) = (old ≡ took ++ new) × (new ≡ [])
+LosesBytes reach took (Some old) (Some new) = old ≡ took ++ new
 
--- what failed, by the counts
+-- a question that no byte answered: the input had ended, or could not be read
+abbrev pub asked_in_vain : Reach → ℕ
+asked_in_vain Dry = 1
+asked_in_vain NotRead = 1
+asked_in_vain Whole = 0
+asked_in_vain NotWritten = 0
+
+-- an input was asked at most once for each byte that it gave, and once in vain
+pub record Loses (reach : Reach) (took : List ℕ) (old new : Input) : Type 0 where
+  pub bytes : LosesBytes reach took old.bytes new.bytes
+  pub calls : new.calls ≤ old.calls + length took + asked_in_vain reach
+
+-- all that was printed has been written
+pub record IsWrittenOut (m : MemoryState) : Type 0 where
+  pub waiting : m.waiting ≡ []
+  pub well : m.failed ≡ false
+
+-- what failed, by the counts. Before a question to the console all was written
 abbrev pub Caused : Reach → Scene → Scene → Type 0
-Caused NotRead old new = Rose old.read_faults new.read_faults
+Caused NotRead old new = Rose old.read_faults new.read_faults × IsWrittenOut new.memory
 Caused NotWritten old new = new.memory.failed ≡ true
 Caused Whole old new = ⊤
-Caused Dry old new = ⊤
+Caused Dry old new = IsWrittenOut new.memory
 
 pub record Faults (reach : Reach) (old new : Scene) : Type 0 where
   pub reads : old.read_faults ≤ new.read_faults
@@ -92,6 +117,6 @@ pub record Later (reached : World → Type 0) (before : Option (List ℕ)) (s : 
 -- leads to a world of the new scene
 pub record Leads (reached : World → World → Type 0) (reach : Reach) (old new : Scene) : Type 0 where
   pub took : List ℕ
-  pub loses : Loses reach took old.left new.left
+  pub loses : Loses reach took old.input new.input
   pub faults : Faults reach old new
   pub meant : (before : Option (List ℕ)) (w : World) (rest : List ℕ) → w.input ≡ took ++ rest → MayBeLeft reach rest → Shows before old w → Later (reached w) before new rest

@@ -6,7 +6,7 @@ ghost use Rattle.forth_program.specs.ByteWords.{Rest};
 ghost use Rattle.forth_program.specs.Meaning.{meaning};
 ghost use Rattle.reference_eval.specs.declared.shapes.Shape.TheVariants as shapes;
 ghost use Rattle.reference_eval.specs.Shapes.{shape_of};
-ghost use Rattle.reference_eval.specs.Outside.{Scene, scene};
+ghost use Rattle.reference_eval.specs.Outside.{Scene, scene, input_of};
 ghost use Rattle.reference_eval.specs.Answers.{Does, answer_of, cells_answer};
 
 use crate::accesses::{
@@ -122,8 +122,8 @@ pub(crate) fn no_cell_word<C: Source, O: Sink>(
 ) -> Result<(), Stop>
     requires { shape_of word ≡ shapes.TakesNone }
     ensures { Does (meaning word cells.old) (cells_answer result cells.new)
-        (scene memory.old (C.left console.old) (C.faults console.old) (O.held out.old) (O.faults out.old))
-        (scene memory.new (C.left console.new) (C.faults console.new) (O.held out.new) (O.faults out.new)) }
+        (scene memory.old (input_of (C.left console.old) (C.calls console.old)) (C.faults console.old) (O.held out.old) (O.faults out.old))
+        (scene memory.new (input_of (C.left console.new) (C.calls console.new)) (C.faults console.new) (O.held out.new) (O.faults out.new)) }
 {
     match word {
         Word::Here => put_cell(here(memory, console, out), cells),
@@ -148,8 +148,8 @@ pub(crate) fn one_cell_word<C: Source, O: Sink>(
 ) -> Result<(), Stop>
     requires { shape_of word ≡ shapes.TakesOne }
     ensures { Does (meaning word cells.old) (cells_answer result cells.new)
-        (scene memory.old (C.left console.old) (C.faults console.old) (O.held out.old) (O.faults out.old))
-        (scene memory.new (C.left console.new) (C.faults console.new) (O.held out.new) (O.faults out.new)) }
+        (scene memory.old (input_of (C.left console.old) (C.calls console.old)) (C.faults console.old) (O.held out.old) (O.faults out.old))
+        (scene memory.new (input_of (C.left console.new) (C.calls console.new)) (C.faults console.new) (O.held out.new) (O.faults out.new)) }
 {
     let Some(x) = cells.pop() else {
         return Err(Stop::Underflow);
@@ -182,8 +182,8 @@ pub(crate) fn two_cell_word<C: Source, O: Sink>(
 ) -> Result<(), Stop>
     requires { shape_of word ≡ shapes.TakesTwo }
     ensures { Does (meaning word cells.old) (cells_answer result cells.new)
-        (scene memory.old (C.left console.old) (C.faults console.old) (O.held out.old) (O.faults out.old))
-        (scene memory.new (C.left console.new) (C.faults console.new) (O.held out.new) (O.faults out.new)) }
+        (scene memory.old (input_of (C.left console.old) (C.calls console.old)) (C.faults console.old) (O.held out.old) (O.faults out.old))
+        (scene memory.new (input_of (C.left console.new) (C.calls console.new)) (C.faults console.new) (O.held out.new) (O.faults out.new)) }
 {
     let Some(y) = cells.pop() else {
         return Err(Stop::Underflow);
@@ -214,8 +214,8 @@ pub(crate) fn three_cell_word<C: Source, O: Sink>(
 ) -> Result<(), Stop>
     requires { shape_of word ≡ shapes.TakesThree }
     ensures { Does (meaning word cells.old) (cells_answer result cells.new)
-        (scene memory.old (C.left console.old) (C.faults console.old) (O.held out.old) (O.faults out.old))
-        (scene memory.new (C.left console.new) (C.faults console.new) (O.held out.new) (O.faults out.new)) }
+        (scene memory.old (input_of (C.left console.old) (C.calls console.old)) (C.faults console.old) (O.held out.old) (O.faults out.old))
+        (scene memory.new (input_of (C.left console.new) (C.calls console.new)) (C.faults console.new) (O.held out.new) (O.faults out.new)) }
 {
     let Some(z) = cells.pop() else {
         return Err(Stop::Underflow);
@@ -244,8 +244,8 @@ pub(crate) fn four_cell_word<C: Source, O: Sink>(
 ) -> Result<(), Stop>
     requires { shape_of word ≡ shapes.TakesFour }
     ensures { Does (meaning word cells.old) (cells_answer result cells.new)
-        (scene memory.old (C.left console.old) (C.faults console.old) (O.held out.old) (O.faults out.old))
-        (scene memory.new (C.left console.new) (C.faults console.new) (O.held out.new) (O.faults out.new)) }
+        (scene memory.old (input_of (C.left console.old) (C.calls console.old)) (C.faults console.old) (O.held out.old) (O.faults out.old))
+        (scene memory.new (input_of (C.left console.new) (C.calls console.new)) (C.faults console.new) (O.held out.new) (O.faults out.new)) }
 {
     let Some(top) = cells.pop() else {
         return Err(Stop::Underflow);

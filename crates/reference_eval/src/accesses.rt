@@ -4,7 +4,7 @@ ghost use Rattle.cell_math.specs.Cell.{sum_of};
 ghost use Rattle.console_ports.specs.Ports.{even};
 ghost use Rattle.forth_program.specs.State.{Gives, ◌▸◌};
 ghost use Rattle.forth_program.specs.Access as access;
-ghost use Rattle.reference_eval.specs.Outside.{scene};
+ghost use Rattle.reference_eval.specs.Outside.{scene, input_of, Input};
 ghost use Rattle.reference_eval.specs.Answers.{Does, answer_of};
 
 use crate::ends::Halt;
@@ -42,8 +42,8 @@ pub(crate) fn fetch_byte<C: Source, O: Sink>(
     out: &mut O,
 ) -> Result<u16, Halt>
     ensures { Does (access.fetch_byte address) (answer_of result)
-        (scene memory.old (C.left console.old) (C.faults console.old) (O.held out.old) (O.faults out.old))
-        (scene memory.new (C.left console.new) (C.faults console.new) (O.held out.new) (O.faults out.new)) }
+        (scene memory.old (input_of (C.left console.old) (C.calls console.old)) (C.faults console.old) (O.held out.old) (O.faults out.old))
+        (scene memory.new (input_of (C.left console.new) (C.calls console.new)) (C.faults console.new) (O.held out.new) (O.faults out.new)) }
 {
     let cell = memory.fetch(address, console, out)?;
     Ok(byte_of(address, cell))
@@ -58,8 +58,8 @@ pub(crate) fn store_byte<C: Source, O: Sink>(
     out: &mut O,
 ) -> Result<(), Halt>
     ensures { Does (access.store_byte address byte) (answer_of result)
-        (scene memory.old (C.left console.old) (C.faults console.old) (O.held out.old) (O.faults out.old))
-        (scene memory.new (C.left console.new) (C.faults console.new) (O.held out.new) (O.faults out.new)) }
+        (scene memory.old (input_of (C.left console.old) (C.calls console.old)) (C.faults console.old) (O.held out.old) (O.faults out.old))
+        (scene memory.new (input_of (C.left console.new) (C.calls console.new)) (C.faults console.new) (O.held out.new) (O.faults out.new)) }
 {
     let cell = memory.fetch(address, console, out)?;
     memory.store(address, with_byte(address, cell, byte), out)
@@ -72,8 +72,8 @@ pub(crate) fn base<C: Source, O: Sink>(
     out: &mut O,
 ) -> Result<u16, Halt>
     ensures { Does (access.base) (answer_of result)
-        (scene memory.old (C.left console.old) (C.faults console.old) (O.held out.old) (O.faults out.old))
-        (scene memory.new (C.left console.new) (C.faults console.new) (O.held out.new) (O.faults out.new)) }
+        (scene memory.old (input_of (C.left console.old) (C.calls console.old)) (C.faults console.old) (O.held out.old) (O.faults out.old))
+        (scene memory.new (input_of (C.left console.new) (C.calls console.new)) (C.faults console.new) (O.held out.new) (O.faults out.new)) }
 {
     let start = memory.data_start();
     memory.fetch(start, console, out)
@@ -86,8 +86,8 @@ pub(crate) fn here<C: Source, O: Sink>(
     out: &mut O,
 ) -> Result<u16, Halt>
     ensures { Does (access.here) (answer_of result)
-        (scene memory.old (C.left console.old) (C.faults console.old) (O.held out.old) (O.faults out.old))
-        (scene memory.new (C.left console.new) (C.faults console.new) (O.held out.new) (O.faults out.new)) }
+        (scene memory.old (input_of (C.left console.old) (C.calls console.old)) (C.faults console.old) (O.held out.old) (O.faults out.old))
+        (scene memory.new (input_of (C.left console.new) (C.calls console.new)) (C.faults console.new) (O.held out.new) (O.faults out.new)) }
 {
     let start = memory.data_start();
     memory.fetch(start + 4, console, out)
@@ -95,9 +95,9 @@ pub(crate) fn here<C: Source, O: Sink>(
 
 /// Stores `HERE`.
 pub(crate) fn set_here<O: Sink>(address: u16, memory: &mut Memory, out: &mut O) -> Result<(), Halt>
-    ensures { (left : Option (List ℕ)) (reads : ℕ) → Does (λ w. access.store (w.data_start + 4) address w) (answer_of result)
-        (scene memory.old left reads (O.held out.old) (O.faults out.old))
-        (scene memory.new left reads (O.held out.new) (O.faults out.new)) }
+    ensures { (input : Input) (reads : ℕ) → Does (λ w. access.store (w.data_start + 4) address w) (answer_of result)
+        (scene memory.old input reads (O.held out.old) (O.faults out.old))
+        (scene memory.new input reads (O.held out.new) (O.faults out.new)) }
 {
     let start = memory.data_start();
     memory.store(start + 4, address, out)
@@ -111,8 +111,8 @@ pub(crate) fn grow_here<C: Source, O: Sink>(
     out: &mut O,
 ) -> Result<(), Halt>
     ensures { Does (access.grow_here size) (answer_of result)
-        (scene memory.old (C.left console.old) (C.faults console.old) (O.held out.old) (O.faults out.old))
-        (scene memory.new (C.left console.new) (C.faults console.new) (O.held out.new) (O.faults out.new)) }
+        (scene memory.old (input_of (C.left console.old) (C.calls console.old)) (C.faults console.old) (O.held out.old) (O.faults out.old))
+        (scene memory.new (input_of (C.left console.new) (C.calls console.new)) (C.faults console.new) (O.held out.new) (O.faults out.new)) }
 {
     let old = here(memory, console, out)?;
     set_here(add(old, size), memory, out)
@@ -120,9 +120,9 @@ pub(crate) fn grow_here<C: Source, O: Sink>(
 
 /// Stores `BASE`.
 pub(crate) fn set_base<O: Sink>(radix: u16, memory: &mut Memory, out: &mut O) -> Result<(), Halt>
-    ensures { (left : Option (List ℕ)) (reads : ℕ) → Does (λ w. access.store w.data_start radix w) (answer_of result)
-        (scene memory.old left reads (O.held out.old) (O.faults out.old))
-        (scene memory.new left reads (O.held out.new) (O.faults out.new)) }
+    ensures { (input : Input) (reads : ℕ) → Does (λ w. access.store w.data_start radix w) (answer_of result)
+        (scene memory.old input reads (O.held out.old) (O.faults out.old))
+        (scene memory.new input reads (O.held out.new) (O.faults out.new)) }
 {
     let start = memory.data_start();
     memory.store(start, radix, out)
@@ -135,8 +135,8 @@ pub(crate) fn align_here<C: Source, O: Sink>(
     out: &mut O,
 ) -> Result<(), Halt>
     ensures { Does (λ w. access.here w ▸ λ h w. access.store (w.data_start + 4) (even (sum_of h 1)) w) (answer_of result)
-        (scene memory.old (C.left console.old) (C.faults console.old) (O.held out.old) (O.faults out.old))
-        (scene memory.new (C.left console.new) (C.faults console.new) (O.held out.new) (O.faults out.new)) }
+        (scene memory.old (input_of (C.left console.old) (C.calls console.old)) (C.faults console.old) (O.held out.old) (O.faults out.old))
+        (scene memory.new (input_of (C.left console.new) (C.calls console.new)) (C.faults console.new) (O.held out.new) (O.faults out.new)) }
 {
     let old = here(memory, console, out)?;
     set_here(add(old, 1) / 2 * 2, memory, out)
@@ -150,8 +150,8 @@ pub(crate) fn comma<C: Source, O: Sink>(
     out: &mut O,
 ) -> Result<(), Halt>
     ensures { Does (λ w. access.here w ▸ λ h w. access.store h x w ▸ λ _ w. access.grow_here 2 w) (answer_of result)
-        (scene memory.old (C.left console.old) (C.faults console.old) (O.held out.old) (O.faults out.old))
-        (scene memory.new (C.left console.new) (C.faults console.new) (O.held out.new) (O.faults out.new)) }
+        (scene memory.old (input_of (C.left console.old) (C.calls console.old)) (C.faults console.old) (O.held out.old) (O.faults out.old))
+        (scene memory.new (input_of (C.left console.new) (C.calls console.new)) (C.faults console.new) (O.held out.new) (O.faults out.new)) }
 {
     let old = here(memory, console, out)?;
     memory.store(old, x, out)?;
@@ -166,8 +166,8 @@ pub(crate) fn comma_byte<C: Source, O: Sink>(
     out: &mut O,
 ) -> Result<(), Halt>
     ensures { Does (λ w. access.here w ▸ λ h w. access.store_byte h x w ▸ λ _ w. access.grow_here 1 w) (answer_of result)
-        (scene memory.old (C.left console.old) (C.faults console.old) (O.held out.old) (O.faults out.old))
-        (scene memory.new (C.left console.new) (C.faults console.new) (O.held out.new) (O.faults out.new)) }
+        (scene memory.old (input_of (C.left console.old) (C.calls console.old)) (C.faults console.old) (O.held out.old) (O.faults out.old))
+        (scene memory.new (input_of (C.left console.new) (C.calls console.new)) (C.faults console.new) (O.held out.new) (O.faults out.new)) }
 {
     let old = here(memory, console, out)?;
     store_byte(old, x, memory, console, out)?;
@@ -183,8 +183,8 @@ pub(crate) fn add_at<C: Source, O: Sink>(
     out: &mut O,
 ) -> Result<(), Halt>
     ensures { Does (λ w. access.fetch address w ▸ λ y w. access.store address (sum_of y x) w) (answer_of result)
-        (scene memory.old (C.left console.old) (C.faults console.old) (O.held out.old) (O.faults out.old))
-        (scene memory.new (C.left console.new) (C.faults console.new) (O.held out.new) (O.faults out.new)) }
+        (scene memory.old (input_of (C.left console.old) (C.calls console.old)) (C.faults console.old) (O.held out.old) (O.faults out.old))
+        (scene memory.new (input_of (C.left console.new) (C.calls console.new)) (C.faults console.new) (O.held out.new) (O.faults out.new)) }
 {
     let old = memory.fetch(address, console, out)?;
     memory.store(address, add(old, x), out)
@@ -198,8 +198,8 @@ pub(crate) fn fetch_pair<C: Source, O: Sink>(
     out: &mut O,
 ) -> Result<(u16, u16), Halt>
     ensures { Does (λ w. access.fetch (sum_of address 2) w ▸ λ x w. access.fetch address w ▸ λ y. Gives (x, y)) (answer_of result)
-        (scene memory.old (C.left console.old) (C.faults console.old) (O.held out.old) (O.faults out.old))
-        (scene memory.new (C.left console.new) (C.faults console.new) (O.held out.new) (O.faults out.new)) }
+        (scene memory.old (input_of (C.left console.old) (C.calls console.old)) (C.faults console.old) (O.held out.old) (O.faults out.old))
+        (scene memory.new (input_of (C.left console.new) (C.calls console.new)) (C.faults console.new) (O.held out.new) (O.faults out.new)) }
 {
     let x = memory.fetch(add(address, 2), console, out)?;
     let y = memory.fetch(address, console, out)?;
@@ -214,9 +214,9 @@ pub(crate) fn store_pair<O: Sink>(
     memory: &mut Memory,
     out: &mut O,
 ) -> Result<(), Halt>
-    ensures { (left : Option (List ℕ)) (reads : ℕ) → Does (λ w. access.store address y w ▸ λ _ w. access.store (sum_of address 2) x w) (answer_of result)
-        (scene memory.old left reads (O.held out.old) (O.faults out.old))
-        (scene memory.new left reads (O.held out.new) (O.faults out.new)) }
+    ensures { (input : Input) (reads : ℕ) → Does (λ w. access.store address y w ▸ λ _ w. access.store (sum_of address 2) x w) (answer_of result)
+        (scene memory.old input reads (O.held out.old) (O.faults out.old))
+        (scene memory.new input reads (O.held out.new) (O.faults out.new)) }
 {
     memory.store(address, y, out)?;
     memory.store(add(address, 2), x, out)
@@ -230,8 +230,8 @@ pub(crate) fn count<C: Source, O: Sink>(
     out: &mut O,
 ) -> Result<(u16, u16), Halt>
     ensures { Does (λ w. access.fetch_byte address w ▸ λ x. Gives (sum_of address 1, x)) (answer_of result)
-        (scene memory.old (C.left console.old) (C.faults console.old) (O.held out.old) (O.faults out.old))
-        (scene memory.new (C.left console.new) (C.faults console.new) (O.held out.new) (O.faults out.new)) }
+        (scene memory.old (input_of (C.left console.old) (C.calls console.old)) (C.faults console.old) (O.held out.old) (O.faults out.old))
+        (scene memory.new (input_of (C.left console.new) (C.calls console.new)) (C.faults console.new) (O.held out.new) (O.faults out.new)) }
 {
     let byte = fetch_byte(address, memory, console, out)?;
     Ok((add(address, 1), byte))

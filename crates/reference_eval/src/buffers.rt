@@ -1,5 +1,5 @@
 // Bytes that wait to be written.
-ghost use Rattle.std.specs.Prelude.{◌≡◌, ◌<◌, ◌≤◌, ◌↔◌, ◌++◌, ◌∷◌, [], length, IsTrue, OnOk, OnErr};
+ghost use Rattle.std.specs.Prelude.{◌≡◌, ◌<◌, ◌≤◌, ◌↔◌, ◌++◌, ◌∷◌, [], length, IsTrue, IsOk, OnOk, OnErr};
 ghost use Rattle.std.specs.Io.KnownBytes.{Appends};
 ghost use Rattle.outside_io.specs.Causes.{HasCause};
 ghost use Rattle.outside_io.specs.Bytes.{WritesAll};
@@ -50,13 +50,17 @@ impl Buffer {
         self.len += 1;
     }
 
-    /// Writes the bytes out.
+    /// Writes the bytes out, where there are some.
     pub(crate) fn flush<O: Sink>(&mut self, out: &mut O) -> Result<(), Halt>
+        ensures none { self.old ≡ [] → IsOk result }
         ensures bytes { WritesAll (O.held out.old) (O.held out.new) result self.old }
         ensures empty { OnOk result (self.new ≡ []) }
         ensures err { OnErr result (result ≡ Err Halt.Write) }
         ensures cause { HasCause (O.faults out.old) (O.faults out.new) result }
     {
+        if self.len == 0 {
+            return Ok(());
+        }
         match out.write(&self.bytes[..self.len]) {
             Ok(()) => {
                 self.len = 0;

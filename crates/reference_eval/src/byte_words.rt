@@ -4,7 +4,7 @@ ghost use Rattle.cell_math.specs.Cell.{signed as signed_view};
 ghost use Rattle.forth_program.specs.State.{◌▸◌};
 ghost use Rattle.forth_program.specs.Access.{base as base_of};
 ghost use Rattle.forth_program.specs.ByteWords as bytes;
-ghost use Rattle.reference_eval.specs.Outside.{scene};
+ghost use Rattle.reference_eval.specs.Outside.{scene, input_of, Input};
 ghost use Rattle.reference_eval.specs.Answers.{Does, answer_of};
 
 use crate::accesses::{base, fetch_byte, store_byte};
@@ -22,8 +22,8 @@ pub(crate) fn type_out<C: Source, O: Sink>(
     out: &mut O,
 ) -> Result<(), Halt>
     ensures { Does (bytes.type_out size address) (answer_of result)
-        (scene memory.old (C.left console.old) (C.faults console.old) (O.held out.old) (O.faults out.old))
-        (scene memory.new (C.left console.new) (C.faults console.new) (O.held out.new) (O.faults out.new)) }
+        (scene memory.old (input_of (C.left console.old) (C.calls console.old)) (C.faults console.old) (O.held out.old) (O.faults out.old))
+        (scene memory.new (input_of (C.left console.new) (C.calls console.new)) (C.faults console.new) (O.held out.new) (O.faults out.new)) }
 {
     let mut left = size;
     let mut at = address;
@@ -45,7 +45,7 @@ fn positive(count: u16) -> u16
 
 /// Prints spaces; a count that is not positive is 0.
 pub(crate) fn emit_spaces<O: Sink>(count: u16, memory: &mut Memory, out: &mut O) -> Result<(), Halt>
-    ensures { (input : Option (List ℕ)) (reads : ℕ) → Does (bytes.emit_spaces (bytes.positive (signed_view count))) (answer_of result)
+    ensures { (input : Input) (reads : ℕ) → Does (bytes.emit_spaces (bytes.positive (signed_view count))) (answer_of result)
         (scene memory.old input reads (O.held out.old) (O.faults out.old))
         (scene memory.new input reads (O.held out.new) (O.faults out.new)) }
 {
@@ -67,8 +67,8 @@ pub(crate) fn fill<C: Source, O: Sink>(
     out: &mut O,
 ) -> Result<(), Halt>
     ensures { Does (bytes.fill size address byte) (answer_of result)
-        (scene memory.old (C.left console.old) (C.faults console.old) (O.held out.old) (O.faults out.old))
-        (scene memory.new (C.left console.new) (C.faults console.new) (O.held out.new) (O.faults out.new)) }
+        (scene memory.old (input_of (C.left console.old) (C.calls console.old)) (C.faults console.old) (O.held out.old) (O.faults out.old))
+        (scene memory.new (input_of (C.left console.new) (C.calls console.new)) (C.faults console.new) (O.held out.new) (O.faults out.new)) }
 {
     let mut left = size;
     let mut at = address;
@@ -89,8 +89,8 @@ fn copy_byte<C: Source, O: Sink>(
     out: &mut O,
 ) -> Result<(), Halt>
     ensures { Does (bytes.copy_byte from to) (answer_of result)
-        (scene memory.old (C.left console.old) (C.faults console.old) (O.held out.old) (O.faults out.old))
-        (scene memory.new (C.left console.new) (C.faults console.new) (O.held out.new) (O.faults out.new)) }
+        (scene memory.old (input_of (C.left console.old) (C.calls console.old)) (C.faults console.old) (O.held out.old) (O.faults out.old))
+        (scene memory.new (input_of (C.left console.new) (C.calls console.new)) (C.faults console.new) (O.held out.new) (O.faults out.new)) }
 {
     let byte = fetch_byte(from, memory, console, out)?;
     store_byte(to, byte, memory, console, out)
@@ -106,8 +106,8 @@ fn move_up<C: Source, O: Sink>(
     out: &mut O,
 ) -> Result<(), Halt>
     ensures { Does (bytes.move_up size from to) (answer_of result)
-        (scene memory.old (C.left console.old) (C.faults console.old) (O.held out.old) (O.faults out.old))
-        (scene memory.new (C.left console.new) (C.faults console.new) (O.held out.new) (O.faults out.new)) }
+        (scene memory.old (input_of (C.left console.old) (C.calls console.old)) (C.faults console.old) (O.held out.old) (O.faults out.old))
+        (scene memory.new (input_of (C.left console.new) (C.calls console.new)) (C.faults console.new) (O.held out.new) (O.faults out.new)) }
 {
     let mut left = size;
     let mut source = from;
@@ -131,8 +131,8 @@ fn move_down<C: Source, O: Sink>(
     out: &mut O,
 ) -> Result<(), Halt>
     ensures { Does (bytes.move_down size from to) (answer_of result)
-        (scene memory.old (C.left console.old) (C.faults console.old) (O.held out.old) (O.faults out.old))
-        (scene memory.new (C.left console.new) (C.faults console.new) (O.held out.new) (O.faults out.new)) }
+        (scene memory.old (input_of (C.left console.old) (C.calls console.old)) (C.faults console.old) (O.held out.old) (O.faults out.old))
+        (scene memory.new (input_of (C.left console.new) (C.calls console.new)) (C.faults console.new) (O.held out.new) (O.faults out.new)) }
 {
     let mut left = size;
     while left > 0 {
@@ -152,8 +152,8 @@ pub(crate) fn move_bytes<C: Source, O: Sink>(
     out: &mut O,
 ) -> Result<(), Halt>
     ensures { Does (bytes.move size from to) (answer_of result)
-        (scene memory.old (C.left console.old) (C.faults console.old) (O.held out.old) (O.faults out.old))
-        (scene memory.new (C.left console.new) (C.faults console.new) (O.held out.new) (O.faults out.new)) }
+        (scene memory.old (input_of (C.left console.old) (C.calls console.old)) (C.faults console.old) (O.held out.old) (O.faults out.old))
+        (scene memory.new (input_of (C.left console.new) (C.calls console.new)) (C.faults console.new) (O.held out.new) (O.faults out.new)) }
 {
     if from < to {
         move_down(size, from, to, memory, console, out)
@@ -171,8 +171,8 @@ pub(crate) fn accept<C: Source, O: Sink>(
     out: &mut O,
 ) -> Result<u16, Halt>
     ensures { Does (bytes.accept most address 0) (answer_of result)
-        (scene memory.old (C.left console.old) (C.faults console.old) (O.held out.old) (O.faults out.old))
-        (scene memory.new (C.left console.new) (C.faults console.new) (O.held out.new) (O.faults out.new)) }
+        (scene memory.old (input_of (C.left console.old) (C.calls console.old)) (C.faults console.old) (O.held out.old) (O.faults out.old))
+        (scene memory.new (input_of (C.left console.new) (C.calls console.new)) (C.faults console.new) (O.held out.new) (O.faults out.new)) }
 {
     let mut kept = 0;
     let mut left = most;
@@ -220,8 +220,8 @@ pub(crate) fn number_from<C: Source, O: Sink>(
     out: &mut O,
 ) -> Result<(u32, u16, u16), Halt>
     ensures { Does (λ w. base_of w ▸ λ b w. bytes.number_from b size address number w) (answer_of result)
-        (scene memory.old (C.left console.old) (C.faults console.old) (O.held out.old) (O.faults out.old))
-        (scene memory.new (C.left console.new) (C.faults console.new) (O.held out.new) (O.faults out.new)) }
+        (scene memory.old (input_of (C.left console.old) (C.calls console.old)) (C.faults console.old) (O.held out.old) (O.faults out.old))
+        (scene memory.new (input_of (C.left console.new) (C.calls console.new)) (C.faults console.new) (O.held out.new) (O.faults out.new)) }
 {
     let radix = base(memory, console, out)?;
     let mut value = number;

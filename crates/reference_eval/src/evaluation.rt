@@ -3,7 +3,7 @@ ghost use Rattle.std.specs.Prelude.{◌≡◌, [], IfOk};
 ghost use Rattle.forth_program.specs.Program.{body_of};
 ghost use Rattle.forth_program.specs.Step.{before};
 ghost use Rattle.reference_eval.specs.Work.{works};
-ghost use Rattle.reference_eval.specs.Outside.{scene};
+ghost use Rattle.reference_eval.specs.Outside.{scene, input_of};
 ghost use Rattle.reference_eval.specs.Machine.{Runs};
 ghost use Rattle.reference_eval.specs.Evaluation.{Evaluates, finish_of};
 
@@ -43,8 +43,8 @@ impl<'a> Machine<'a> {
         out: &mut O,
     ) -> Result<(), Stop>
         ensures { Runs program.now k result self.old self.new
-            (scene memory.old (C.left console.old) (C.faults console.old) (O.held out.old) (O.faults out.old))
-            (scene memory.new (C.left console.new) (C.faults console.new) (O.held out.new) (O.faults out.new)) }
+            (scene memory.old (input_of (C.left console.old) (C.calls console.old)) (C.faults console.old) (O.held out.old) (O.faults out.old))
+            (scene memory.new (input_of (C.left console.new) (C.calls console.new)) (C.faults console.new) (O.held out.new) (O.faults out.new)) }
     {
         runs_compose();
         let mut left = k;
@@ -88,7 +88,7 @@ pub fn evaluate<C: Source, O: Sink>(
     out: &mut O,
     k: u64,
 ) -> Result<EvalFinish, EvalError>
-    ensures { Evaluates program.now k result (C.left console.old) (C.left console.new) (C.faults console.old) (C.faults console.new) (O.held out.old) (O.held out.new) (O.faults out.old) (O.faults out.new) }
+    ensures { Evaluates program.now k result (input_of (C.left console.old) (C.calls console.old)) (input_of (C.left console.new) (C.calls console.new)) (C.faults console.old) (C.faults console.new) (O.held out.old) (O.held out.new) (O.faults out.old) (O.faults out.new) }
 {
     let Ok(mut memory) = Memory::new(alloc, program) else {
         return Err(EvalError::OutOfMemory);

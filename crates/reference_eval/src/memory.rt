@@ -1,10 +1,10 @@
 // Data space, and the bytes that wait to be written.
 ghost use Rattle.std.specs.Prelude.{◌≡◌, ◌+◌, ◌-◌, ◌/◌, ◌%◌, ◌++◌, ◌≤◌, ◌<◌, ℕ, List, Option, [], false, length, IfOk, OnOk, IfSome, MatchResult, OnErr, slice_get, slice_index, slice_set, drop};
 ghost use Rattle.cell_math.specs.Bytes.{cells_of_bytes, filled};
-ghost use Rattle.outside_io.specs.Causes.{HasCause};
+ghost use Rattle.outside_io.specs.Causes.{HasCause, risen};
 ghost use Rattle.forth_program.specs.Access as access;
 ghost use Rattle.console_ports.specs.DataSpace.{IsDataStart};
-ghost use Rattle.reference_eval.specs.Outside.{Leads, NotWritten, Whole, scene};
+ghost use Rattle.reference_eval.specs.Outside.{Leads, NotWritten, Whole, scene, input_of, Input};
 ghost use Rattle.reference_eval.specs.Answers.{Does, Gave, answer_of};
 ghost use Rattle.reference_eval.specs.Steps.{IsSame, Prints};
 
@@ -64,6 +64,7 @@ fn fill(cells: &mut Vec<u16>, len: usize) -> Result<(), AllocError>
 // Asks the console for one byte.
 fn ask<C: Source>(console: &mut C) -> Result<Option<u8>, Failed>
     ensures byte { IfSome (C.left console.old) (λ input. MatchResult result (λ byte. (byte ≡ slice_get input 0) × (C.left console.new ≡ Some (drop 1 input))) (λ _. C.left console.new ≡ Some input)) }
+    ensures calls { C.calls console.new ≡ risen (C.calls console.old) }
     ensures cause { HasCause (C.faults console.old) (C.faults console.new) result }
 {
     let mut buf = [0u8; 1];
@@ -123,10 +124,11 @@ impl Memory {
 
     /// Writes out what waits.
     pub(crate) fn flush<O: Sink>(&mut self, out: &mut O)
-        ensures leads { (left : Option (List ℕ)) (reads : ℕ) → Leads IsSame Whole
-            (scene self.old left reads (O.held out.old) (O.faults out.old))
-            (scene self.new left reads (O.held out.new) (O.faults out.new)) }
+        ensures leads { (input : Input) (reads : ℕ) → Leads IsSame Whole
+            (scene self.old input reads (O.held out.old) (O.faults out.old))
+            (scene self.new input reads (O.held out.new) (O.faults out.new)) }
         ensures empty { self.new.failed ≡ false → self.new.waiting ≡ [] }
+        ensures well { self.old.waiting ≡ [] → self.old.failed ≡ false → self.new.failed ≡ false }
     {
         if self.failed {
             return;
@@ -139,9 +141,9 @@ impl Memory {
 
     // Writes out what waits, where the buffer is full.
     fn make_room<O: Sink>(&mut self, out: &mut O)
-        ensures leads { (left : Option (List ℕ)) (reads : ℕ) → Leads IsSame Whole
-            (scene self.old left reads (O.held out.old) (O.faults out.old))
-            (scene self.new left reads (O.held out.new) (O.faults out.new)) }
+        ensures leads { (input : Input) (reads : ℕ) → Leads IsSame Whole
+            (scene self.old input reads (O.held out.old) (O.faults out.old))
+            (scene self.new input reads (O.held out.new) (O.faults out.new)) }
         ensures room { self.new.failed ≡ false → length self.new.waiting < 512 }
     {
         if self.buffer.is_full() {
@@ -151,9 +153,9 @@ impl Memory {
 
     /// Prints the low byte of a cell.
     pub(crate) fn print<O: Sink>(&mut self, cell: u16, out: &mut O)
-        ensures { (left : Option (List ℕ)) (reads : ℕ) → Leads (Prints cell) Whole
-            (scene self.old left reads (O.held out.old) (O.faults out.old))
-            (scene self.new left reads (O.held out.new) (O.faults out.new)) }
+        ensures { (input : Input) (reads : ℕ) → Leads (Prints cell) Whole
+            (scene self.old input reads (O.held out.old) (O.faults out.old))
+            (scene self.new input reads (O.held out.new) (O.faults out.new)) }
     {
         self.make_room(out);
         if !self.failed {
@@ -164,8 +166,8 @@ impl Memory {
     /// Takes an input byte. What was printed is written out before.
     fn take<C: Source, O: Sink>(&mut self, console: &mut C, out: &mut O) -> Result<u16, Halt>
         ensures { Does access.take_key (answer_of result)
-            (scene self.old (C.left console.old) (C.faults console.old) (O.held out.old) (O.faults out.old))
-            (scene self.new (C.left console.new) (C.faults console.new) (O.held out.new) (O.faults out.new)) }
+            (scene self.old (input_of (C.left console.old) (C.calls console.old)) (C.faults console.old) (O.held out.old) (O.faults out.old))
+            (scene self.new (input_of (C.left console.new) (C.calls console.new)) (C.faults console.new) (O.held out.new) (O.faults out.new)) }
     {
         self.flush(out);
         if self.failed {
@@ -186,8 +188,8 @@ impl Memory {
         out: &mut O,
     ) -> Result<u16, Halt>
         ensures { Does (access.fetch address) (answer_of result)
-            (scene self.old (C.left console.old) (C.faults console.old) (O.held out.old) (O.faults out.old))
-            (scene self.new (C.left console.new) (C.faults console.new) (O.held out.new) (O.faults out.new)) }
+            (scene self.old (input_of (C.left console.old) (C.calls console.old)) (C.faults console.old) (O.held out.old) (O.faults out.old))
+            (scene self.new (input_of (C.left console.new) (C.calls console.new)) (C.faults console.new) (O.held out.new) (O.faults out.new)) }
     {
         match access(address, self.fence, false) {
             Access::Data(place) => {
@@ -210,9 +212,9 @@ impl Memory {
         cell: u16,
         out: &mut O,
     ) -> Result<(), Halt>
-        ensures { (left : Option (List ℕ)) (reads : ℕ) → Does (access.store address cell) (answer_of result)
-            (scene self.old left reads (O.held out.old) (O.faults out.old))
-            (scene self.new left reads (O.held out.new) (O.faults out.new)) }
+        ensures { (input : Input) (reads : ℕ) → Does (access.store address cell) (answer_of result)
+            (scene self.old input reads (O.held out.old) (O.faults out.old))
+            (scene self.new input reads (O.held out.new) (O.faults out.new)) }
     {
         match access(address, self.fence, true) {
             Access::Data(place) => {

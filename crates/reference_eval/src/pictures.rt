@@ -3,7 +3,7 @@ ghost use Rattle.std.specs.Prelude.{◌≡◌, ◌+◌, ◌<◌, ◌≤◌, ◌&
 ghost use Rattle.cell_math.specs.Cell.{difference_of};
 ghost use Rattle.forth_program.specs.Access as access;
 ghost use Rattle.forth_program.specs.PicturedOutput as picture;
-ghost use Rattle.reference_eval.specs.Outside.{scene};
+ghost use Rattle.reference_eval.specs.Outside.{scene, input_of, Input};
 ghost use Rattle.reference_eval.specs.Answers.{Does, answer_of};
 ghost use Rattle.reference_eval.specs.Steps.{is_in_hold_buffer};
 
@@ -15,9 +15,9 @@ use outside_io::{Sink, Source};
 
 /// Empties the hold buffer.
 pub(crate) fn open_picture<O: Sink>(memory: &mut Memory, out: &mut O) -> Result<(), Halt>
-    ensures { (left : Option (List ℕ)) (reads : ℕ) → Does (picture.open_picture) (answer_of result)
-        (scene memory.old left reads (O.held out.old) (O.faults out.old))
-        (scene memory.new left reads (O.held out.new) (O.faults out.new)) }
+    ensures { (input : Input) (reads : ℕ) → Does (picture.open_picture) (answer_of result)
+        (scene memory.old input reads (O.held out.old) (O.faults out.old))
+        (scene memory.new input reads (O.held out.new) (O.faults out.new)) }
 {
     let start = memory.data_start();
     memory.store(start + 2, start + 96, out)
@@ -30,8 +30,8 @@ fn hold_pointer<C: Source, O: Sink>(
     out: &mut O,
 ) -> Result<u16, Halt>
     ensures { Does (λ w. access.fetch (w.data_start + 2) w) (answer_of result)
-        (scene memory.old (C.left console.old) (C.faults console.old) (O.held out.old) (O.faults out.old))
-        (scene memory.new (C.left console.new) (C.faults console.new) (O.held out.new) (O.faults out.new)) }
+        (scene memory.old (input_of (C.left console.old) (C.calls console.old)) (C.faults console.old) (O.held out.old) (O.faults out.old))
+        (scene memory.new (input_of (C.left console.new) (C.calls console.new)) (C.faults console.new) (O.held out.new) (O.faults out.new)) }
 {
     let start = memory.data_start();
     memory.fetch(start + 2, console, out)
@@ -39,9 +39,9 @@ fn hold_pointer<C: Source, O: Sink>(
 
 // Stores the hold pointer.
 fn set_hold_pointer<O: Sink>(address: u16, memory: &mut Memory, out: &mut O) -> Result<(), Halt>
-    ensures { (left : Option (List ℕ)) (reads : ℕ) → Does (λ w. access.store (w.data_start + 2) address w) (answer_of result)
-        (scene memory.old left reads (O.held out.old) (O.faults out.old))
-        (scene memory.new left reads (O.held out.new) (O.faults out.new)) }
+    ensures { (input : Input) (reads : ℕ) → Does (λ w. access.store (w.data_start + 2) address w) (answer_of result)
+        (scene memory.old input reads (O.held out.old) (O.faults out.old))
+        (scene memory.new input reads (O.held out.new) (O.faults out.new)) }
 {
     let start = memory.data_start();
     memory.store(start + 2, address, out)
@@ -70,8 +70,8 @@ pub(crate) fn hold<C: Source, O: Sink>(
     out: &mut O,
 ) -> Result<(), Halt>
     ensures { Does (picture.hold byte) (answer_of result)
-        (scene memory.old (C.left console.old) (C.faults console.old) (O.held out.old) (O.faults out.old))
-        (scene memory.new (C.left console.new) (C.faults console.new) (O.held out.new) (O.faults out.new)) }
+        (scene memory.old (input_of (C.left console.old) (C.calls console.old)) (C.faults console.old) (O.held out.old) (O.faults out.old))
+        (scene memory.new (input_of (C.left console.new) (C.calls console.new)) (C.faults console.new) (O.held out.new) (O.faults out.new)) }
 {
     let old = hold_pointer(memory, console, out)?;
     let pointer = less(old, 1);
@@ -90,8 +90,8 @@ pub(crate) fn hold_sign<C: Source, O: Sink>(
     out: &mut O,
 ) -> Result<(), Halt>
     ensures { Does (picture.hold_sign negative) (answer_of result)
-        (scene memory.old (C.left console.old) (C.faults console.old) (O.held out.old) (O.faults out.old))
-        (scene memory.new (C.left console.new) (C.faults console.new) (O.held out.new) (O.faults out.new)) }
+        (scene memory.old (input_of (C.left console.old) (C.calls console.old)) (C.faults console.old) (O.held out.old) (O.faults out.old))
+        (scene memory.new (input_of (C.left console.new) (C.calls console.new)) (C.faults console.new) (O.held out.new) (O.faults out.new)) }
 {
     if negative {
         hold(45, memory, console, out)
@@ -118,8 +118,8 @@ fn is_radix(x: u16) -> bool
 // `BASE`, from 2 to 36; halts where it is another.
 fn radix<C: Source, O: Sink>(memory: &mut Memory, console: &mut C, out: &mut O) -> Result<u32, Halt>
     ensures does { Does (picture.radix) (answer_of result)
-        (scene memory.old (C.left console.old) (C.faults console.old) (O.held out.old) (O.faults out.old))
-        (scene memory.new (C.left console.new) (C.faults console.new) (O.held out.new) (O.faults out.new)) }
+        (scene memory.old (input_of (C.left console.old) (C.calls console.old)) (C.faults console.old) (O.held out.old) (O.faults out.old))
+        (scene memory.new (input_of (C.left console.new) (C.calls console.new)) (C.faults console.new) (O.held out.new) (O.faults out.new)) }
     ensures bound { IfOk result (λ radix. (2 ≤ radix) × (radix ≤ 36)) }
 {
     let radix = base(memory, console, out)?;
@@ -137,8 +137,8 @@ pub(crate) fn hold_digit<C: Source, O: Sink>(
     out: &mut O,
 ) -> Result<u32, Halt>
     ensures { Does (picture.hold_digit number) (answer_of result)
-        (scene memory.old (C.left console.old) (C.faults console.old) (O.held out.old) (O.faults out.old))
-        (scene memory.new (C.left console.new) (C.faults console.new) (O.held out.new) (O.faults out.new)) }
+        (scene memory.old (input_of (C.left console.old) (C.calls console.old)) (C.faults console.old) (O.held out.old) (O.faults out.old))
+        (scene memory.new (input_of (C.left console.new) (C.calls console.new)) (C.faults console.new) (O.held out.new) (O.faults out.new)) }
 {
     let by = radix(memory, console, out)?;
     let digit = digit_char((number % by) as u16);
@@ -154,8 +154,8 @@ pub(crate) fn hold_all<C: Source, O: Sink>(
     out: &mut O,
 ) -> Result<u32, Halt>
     ensures { Does (picture.hold_all number) (answer_of result)
-        (scene memory.old (C.left console.old) (C.faults console.old) (O.held out.old) (O.faults out.old))
-        (scene memory.new (C.left console.new) (C.faults console.new) (O.held out.new) (O.faults out.new)) }
+        (scene memory.old (input_of (C.left console.old) (C.calls console.old)) (C.faults console.old) (O.held out.old) (O.faults out.old))
+        (scene memory.new (input_of (C.left console.new) (C.calls console.new)) (C.faults console.new) (O.held out.new) (O.faults out.new)) }
 {
     let mut left = number;
     let mut digits = 32u32;
@@ -176,8 +176,8 @@ pub(crate) fn held<C: Source, O: Sink>(
     out: &mut O,
 ) -> Result<(u16, u16), Halt>
     ensures { Does (picture.picture) (answer_of result)
-        (scene memory.old (C.left console.old) (C.faults console.old) (O.held out.old) (O.faults out.old))
-        (scene memory.new (C.left console.new) (C.faults console.new) (O.held out.new) (O.faults out.new)) }
+        (scene memory.old (input_of (C.left console.old) (C.calls console.old)) (C.faults console.old) (O.held out.old) (O.faults out.old))
+        (scene memory.new (input_of (C.left console.new) (C.calls console.new)) (C.faults console.new) (O.held out.new) (O.faults out.new)) }
 {
     let address = hold_pointer(memory, console, out)?;
     let start = memory.data_start();
@@ -194,8 +194,8 @@ pub(crate) fn print_number<C: Source, O: Sink>(
     out: &mut O,
 ) -> Result<(), Halt>
     ensures { Does (picture.print_number size negative) (answer_of result)
-        (scene memory.old (C.left console.old) (C.faults console.old) (O.held out.old) (O.faults out.old))
-        (scene memory.new (C.left console.new) (C.faults console.new) (O.held out.new) (O.faults out.new)) }
+        (scene memory.old (input_of (C.left console.old) (C.calls console.old)) (C.faults console.old) (O.held out.old) (O.faults out.old))
+        (scene memory.new (input_of (C.left console.new) (C.calls console.new)) (C.faults console.new) (O.held out.new) (O.faults out.new)) }
 {
     open_picture(memory, out)?;
     hold_all(u32::from(size), memory, console, out)?;

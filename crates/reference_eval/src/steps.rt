@@ -6,7 +6,7 @@ ghost use Rattle.forth_program.specs.ItemTrees.{node_of};
 ghost use Rattle.forth_program.specs.Parts.{token_node};
 ghost use Rattle.forth_program.specs.Step as step;
 ghost use Rattle.reference_eval.specs.Work.{is_open_node};
-ghost use Rattle.reference_eval.specs.Outside.{Scene, scene};
+ghost use Rattle.reference_eval.specs.Outside.{Scene, scene, input_of};
 ghost use Rattle.reference_eval.specs.Answers.{Does, answer_of, cells_answer};
 ghost use Rattle.reference_eval.specs.Machine.{Makes};
 
@@ -47,8 +47,8 @@ impl<'a> Machine<'a> {
         out: &mut O,
     ) -> Result<(), Stop>
         ensures { Makes (λ s. step.word_step program.now word s.cells s.entries s) result self.old self.new
-            (scene memory.old (C.left console.old) (C.faults console.old) (O.held out.old) (O.faults out.old))
-            (scene memory.new (C.left console.new) (C.faults console.new) (O.held out.new) (O.faults out.new)) }
+            (scene memory.old (input_of (C.left console.old) (C.calls console.old)) (C.faults console.old) (O.held out.old) (O.faults out.old))
+            (scene memory.new (input_of (C.left console.new) (C.calls console.new)) (C.faults console.new) (O.held out.new) (O.faults out.new)) }
     {
         match shape_of_word(word) {
             Shape::Frame => self.frame_word(program, word),
@@ -71,8 +71,8 @@ impl<'a> Machine<'a> {
         out: &mut O,
     ) -> Result<(), Stop>
         ensures { Makes (λ s. step.text_step kinds.Abort address size s.cells s) result self.old self.new
-            (scene memory.old (C.left console.old) (C.faults console.old) (O.held out.old) (O.faults out.old))
-            (scene memory.new (C.left console.new) (C.faults console.new) (O.held out.new) (O.faults out.new)) }
+            (scene memory.old (input_of (C.left console.old) (C.calls console.old)) (C.faults console.old) (O.held out.old) (O.faults out.old))
+            (scene memory.new (input_of (C.left console.new) (C.calls console.new)) (C.faults console.new) (O.held out.new) (O.faults out.new)) }
     {
         let Some(flag) = self.cells.pop() else {
             return Err(Stop::Underflow);
@@ -94,8 +94,8 @@ impl<'a> Machine<'a> {
         out: &mut O,
     ) -> Result<(), Stop>
         ensures { Makes (λ s. step.text_step kind address size s.cells s) result self.old self.new
-            (scene memory.old (C.left console.old) (C.faults console.old) (O.held out.old) (O.faults out.old))
-            (scene memory.new (C.left console.new) (C.faults console.new) (O.held out.new) (O.faults out.new)) }
+            (scene memory.old (input_of (C.left console.old) (C.calls console.old)) (C.faults console.old) (O.held out.old) (O.faults out.old))
+            (scene memory.new (input_of (C.left console.new) (C.calls console.new)) (C.faults console.new) (O.held out.new) (O.faults out.new)) }
     {
         match kind {
             TextKind::Address => put(&mut self.cells, &[address, size]),
@@ -114,8 +114,8 @@ impl<'a> Machine<'a> {
         out: &mut O,
     ) -> Result<(), Stop>
         ensures { Makes (λ s. step.act program.now (step.first_in (token_node token) s.work) s) result self.old self.new
-            (scene memory.old (C.left console.old) (C.faults console.old) (O.held out.old) (O.faults out.old))
-            (scene memory.new (C.left console.new) (C.faults console.new) (O.held out.new) (O.faults out.new)) }
+            (scene memory.old (input_of (C.left console.old) (C.calls console.old)) (C.faults console.old) (O.held out.old) (O.faults out.old))
+            (scene memory.new (input_of (C.left console.new) (C.calls console.new)) (C.faults console.new) (O.held out.new) (O.faults out.new)) }
     {
         match token {
             Token::Def(id) => self.call(program, id),
@@ -139,8 +139,8 @@ impl<'a> Machine<'a> {
     ) -> Result<(), Stop>
         requires { IsTrue (is_open_node (node_of item.now)) }
         ensures { Makes (λ s. step.act program.now (step.first_in (node_of item.now) s.work) s) result self.old self.new
-            (scene memory.old (C.left console.old) (C.faults console.old) (O.held out.old) (O.faults out.old))
-            (scene memory.new (C.left console.new) (C.faults console.new) (O.held out.new) (O.faults out.new)) }
+            (scene memory.old (input_of (C.left console.old) (C.calls console.old)) (C.faults console.old) (O.held out.old) (O.faults out.old))
+            (scene memory.new (input_of (C.left console.new) (C.calls console.new)) (C.faults console.new) (O.held out.new) (O.faults out.new)) }
     {
         match item {
             Item::Word(word) => self.word(program, *word, memory, console, out),
@@ -160,8 +160,8 @@ impl<'a> Machine<'a> {
         out: &mut O,
     ) -> Result<(), Stop>
         ensures { Makes (step.step program.now) result self.old self.new
-            (scene memory.old (C.left console.old) (C.faults console.old) (O.held out.old) (O.faults out.old))
-            (scene memory.new (C.left console.new) (C.faults console.new) (O.held out.new) (O.faults out.new)) }
+            (scene memory.old (input_of (C.left console.old) (C.calls console.old)) (C.faults console.old) (O.held out.old) (O.faults out.old))
+            (scene memory.new (input_of (C.left console.new) (C.calls console.new)) (C.faults console.new) (O.held out.new) (O.faults out.new)) }
     {
         let first = take_first(&mut self.tasks)?;
         match first {

@@ -1,4 +1,5 @@
 use Rattle.std.proofs.Common.{sym, ◌∙◌, Some, []}
+use Rattle.reference_eval.specs.Outside.{input_of}
 use Rattle.reference_eval.proofs.Evaluated.{Begins, flushes, no_start, not_all_written, all_well_as}
 use Rattle.reference_eval.proofs.evaluation.evaluate.Goals as goal
 
@@ -12,10 +13,10 @@ pub returns-then-has_failed : goal.returns-then-has_failed
 returns-then-has_failed g c =
     let begins : Begins c.args.program.now c.in-Ok.memory c.in-Ok-new.machine = record { memory_is = c.in-Ok.ensures; work = c.in-Ok-new.ensures.work; empty = c.in-Ok-new.ensures.empty } in
     not_all_written _ _ c.run-came.result c.in-Ok-new.machine c.run-came.new.self c.in-Ok.memory c.run-came.new.memory c.flush.new.self _ _ _ _ _ _ _ _ _ _ begins c.run-came.ensures
-    (flushes _ _ _ _ _ _ (c.flush.ensures.leads (Some []) 0)) (sym c.has_failed.ensures ∙ c.if-has_failed.true)
+    (flushes _ _ _ _ _ _ (c.flush.ensures.leads (input_of (Some []) 0) 0) c.flush.ensures.well) (sym c.has_failed.ensures ∙ c.if-has_failed.true)
 
 pub returns : goal.returns
 returns g c =
     let begins : Begins c.args.program.now c.in-Ok.memory c.in-Ok-new.machine = record { memory_is = c.in-Ok.ensures; work = c.in-Ok-new.ensures.work; empty = c.in-Ok-new.ensures.empty } in
     all_well_as _ _ _ c.run-came.result c.in-Ok-new.machine c.run-came.new.self c.in-Ok.memory c.run-came.new.memory c.flush.new.self _ _ _ _ _ _ _ _ _ _ c.finish.ensures begins c.run-came.ensures
-    (flushes _ _ _ _ _ _ (c.flush.ensures.leads (Some []) 0)) (sym c.has_failed.ensures ∙ c.if-has_failed.false) c.flush.ensures.empty
+    (flushes _ _ _ _ _ _ (c.flush.ensures.leads (input_of (Some []) 0) 0) c.flush.ensures.well) (sym c.has_failed.ensures ∙ c.if-has_failed.false) c.flush.ensures.empty
