@@ -204,7 +204,8 @@ nothing_consumed : (left : Option (List ℕ)) → Consumes left left []
 nothing_consumed None = tt
 nothing_consumed (Some old) = refl
 
-ends_dry : (came : Result (Unit {0}) Stop) (took : List ℕ) (left left' : Option (List ℕ)) → LosesBytes (reach_of (answer_of_step came)) took left left' → finish_of came ≡ Ok (finish.Ended end.InputEnded) → IfSome left (λ bytes. left' ≡ Some [])
+ends_dry : (came : Result (Unit {0}) Stop) (took : List ℕ) (left left' : Option (List ℕ)) → LosesBytes (reach_of (answer_of_step came)) took left left' →
+    finish_of came ≡ Ok (finish.Ended end.InputEnded) → IfSome left (λ bytes. left' ≡ Some [])
 ends_dry (Ok d) took left left' h e = absurd cc
 ends_dry (Err (stop.Halt (halt.Ended (end.Halted n)))) took left left' h e = absurd cc
 ends_dry (Err (stop.Halt (halt.Ended end.InputEnded))) took left left' h e = dried took left left' h

@@ -138,7 +138,8 @@ input_ended m left left' reads reads' held writes a once out h = record {
   };
 }
 
-pub not_read : (m : MemoryState) (left left' : Input) (reads reads' : ℕ) (held : Option (List ℕ)) (writes : ℕ) → IfSome left.bytes (λ input. left'.bytes ≡ Some input) → left'.calls ≤ left.calls + 1 → IsWrittenOut m → reads ≤ reads' → Rose reads reads' →
+pub not_read : (m : MemoryState) (left left' : Input) (reads reads' : ℕ) (held : Option (List ℕ)) (writes : ℕ) → IfSome left.bytes (λ input. left'.bytes ≡ Some input) →
+    left'.calls ≤ left.calls + 1 → IsWrittenOut m → reads ≤ reads' → Rose reads reads' →
     Does take_key ReadFailed (scene m left reads held writes) (scene m left' reads' held writes)
 not_read m left left' reads reads' held writes a once out h r = record {
   leads = record {

@@ -5,7 +5,8 @@ use Rattle.reference_eval.proofs.byte_words.move_up.Given as goal
 
 abbrev pub invariant-loop-left : goal.invariant-loop-left
 invariant-loop-left g l = Continues (bytes.move_up l.size l.from l.to) (bytes.move_up l.left l.source l.target) (scene l.initial.memory (input_of (g.C.Source.left l.initial.console) (g.C.Source.calls l.initial.console))
-    (g.C.Source.faults l.initial.console) (g.O.Sink.held l.initial.out) (g.O.Sink.faults l.initial.out)) (scene l.memory (input_of (g.C.Source.left l.console) (g.C.Source.calls l.console)) (g.C.Source.faults l.console) (g.O.Sink.held l.out) (g.O.Sink.faults l.out))
+    (g.C.Source.faults l.initial.console) (g.O.Sink.held l.initial.out) (g.O.Sink.faults l.initial.out)) (scene l.memory (input_of (g.C.Source.left l.console)
+    (g.C.Source.calls l.console)) (g.C.Source.faults l.console) (g.O.Sink.held l.out) (g.O.Sink.faults l.out))
 
 abbrev pub decreases-loop-left : goal.decreases-loop-left
 decreases-loop-left g l = l.left
