@@ -25,7 +25,7 @@ use Rattle.reference_eval.specs.Steps.{IsSame}
 use Rattle.reference_eval.specs.Answers.{Answer, Gave, Ended, ReadFailed, WriteFailed, LacksMemory, reach_of}
 use Rattle.reference_eval.specs.Machine.{state_of, RunsTo, Runs, answer_of_step, entry_of, frame_of}
 use Rattle.reference_eval.specs.Evaluation.{RanAs, RanPart, Evaluates, AnswersRun, MayBeLeftBy, in_vain, finish_of}
-use Rattle.reference_eval.proofs.Leading.{failed_both}
+use Rattle.reference_eval.proofs.SceneSteps.{failed_both}
 
 -- ---- the start
 
@@ -316,7 +316,8 @@ all_well p k came m0 n memory memory1 memory2 left left' reads reads' held held1
   writes_failed = omega (arith, r.leads.faults.writes, f.faults);
 }
 
-pub all_well_as : (p : SourceProgram) (k : ℕ) (result : Result EvalFinish EvalError) (came : Result (Unit {0}) Stop) (m0 n : Machine) (memory memory1 memory2 : MemoryState) (left left' : Input) (reads reads' : ℕ) (held held1 held2 : Option (List ℕ)) (writes writes1 writes2 : ℕ) →
+pub all_well_as : (p : SourceProgram) (k : ℕ) (result : Result EvalFinish EvalError) (came : Result (Unit {0}) Stop) (m0 n : Machine) (memory memory1 memory2 : MemoryState)
+    (left left' : Input) (reads reads' : ℕ) (held held1 held2 : Option (List ℕ)) (writes writes1 writes2 : ℕ) →
     result ≡ finish_of came → Begins p memory m0 → Runs p k came m0 n (scene memory left reads held writes) (scene memory1 left' reads' held1 writes1) →
     Flushes memory1 memory2 held1 held2 writes1 writes2 → memory2.failed ≡ false → (memory2.failed ≡ false → memory2.waiting ≡ []) →
     Evaluates p k result left left' reads reads' held held2 writes writes2

@@ -7,7 +7,7 @@ use Rattle.forth_program.specs.PicturedOutput.{hold_sign, hold_all, picture}
 use Rattle.reference_eval.specs.Outside.{Scene}
 use Rattle.reference_eval.specs.Steps.{is_in_hold_buffer}
 use Rattle.reference_eval.specs.Answers.{Answer, Ended, Does}
-use Rattle.reference_eval.proofs.Doing.{at_start, picks_true, picks_false, halts}
+use Rattle.reference_eval.proofs.AccessSequences.{at_start, picks_true, picks_false, halts}
 
 -- a byte is held at this address
 abbrev pub holds_at : ℕ → ℕ → World → Reply (Unit {0})

@@ -1,8 +1,8 @@
 pub mod Bytes
-pub mod Holding
-pub mod Leading
-pub mod Doing
-pub mod Reaching
+pub mod OutputContents
+pub mod SceneSteps
+pub mod AccessSequences
+pub mod AccessResults
 pub mod WorkLaws
 pub mod StructureLaws
 pub mod Tokens

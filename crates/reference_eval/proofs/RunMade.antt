@@ -15,7 +15,7 @@ use Rattle.reference_eval.specs.Ends.{end_of}
 use Rattle.reference_eval.specs.Outside.{Input, Scene, Leads, LosesBytes, Loses, Whole, NotWritten}
 use Rattle.reference_eval.specs.Answers.{reach_of, stopped}
 use Rattle.reference_eval.specs.Machine.{state_of, StepsTo, Makes, RunsTo, Runs}
-use Rattle.reference_eval.proofs.Leading.{stays, leads_as, leads_then}
+use Rattle.reference_eval.proofs.SceneSteps.{stays, leads_as, leads_then}
 
 -- a machine has made so many steps
 pub record Made (p : SourceProgram) (n : ℕ) (m0 m : Machine) (old new : Scene) : Type 0 where

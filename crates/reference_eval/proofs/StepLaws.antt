@@ -32,7 +32,7 @@ use Rattle.reference_eval.specs.Ends.{end_of}
 use Rattle.reference_eval.specs.Outside.{Scene, Whole}
 use Rattle.reference_eval.specs.Answers.{Does, cells_answer, reach_of, reach_of_end, after}
 use Rattle.reference_eval.specs.Machine.{state_of, Acts, StepsTo, Makes, answer_of_step}
-use Rattle.reference_eval.proofs.Leading.{stays, leads_as}
+use Rattle.reference_eval.proofs.SceneSteps.{stays, leads_as}
 use Rattle.reference_eval.proofs.WordSteps.{plain_word}
 
 -- a step that touches no world

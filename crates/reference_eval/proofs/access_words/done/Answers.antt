@@ -1,6 +1,6 @@
 use Rattle.std.proofs.Common.{subst}
 use Rattle.forth_program.specs.State.{Gives}
-use Rattle.reference_eval.proofs.Doing as does
+use Rattle.reference_eval.proofs.AccessSequences as does
 use Rattle.reference_eval.proofs.access_words.done.Goals as goal
 use Rattle.reference_eval.specs.Answers.{Does, answer_of}
 

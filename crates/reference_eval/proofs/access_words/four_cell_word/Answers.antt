@@ -2,7 +2,7 @@ use Rattle.std.proofs.Common.{ap, ◌∙◌}
 use Rattle.forth_program.specs.Access as access
 use Rattle.forth_program.specs.State.{Gives}
 use Rattle.forth_program.specs.ByteWords as bytes
-use Rattle.reference_eval.proofs.Doing as does
+use Rattle.reference_eval.proofs.AccessSequences as does
 use Rattle.reference_eval.proofs.access_words.four_cell_word.Goals as goal
 use Rattle.std.proofs.Common.{◌∷◌, []}
 use Rattle.cell_math.specs.Cell.{double, high_cell, low_cell}

@@ -3,7 +3,7 @@ use Rattle.forth_program.specs.Access as access
 use Rattle.cell_math.specs.Cell.{sum_of}
 use Rattle.forth_program.specs.State.{Gives}
 use Rattle.console_ports.specs.Ports.{even}
-use Rattle.reference_eval.proofs.Doing as does
+use Rattle.reference_eval.proofs.AccessSequences as does
 use Rattle.reference_eval.proofs.access_words.no_cell_word.Goals as goal
 use Rattle.word_table.specs.declared.word.Word.TheVariants as table
 

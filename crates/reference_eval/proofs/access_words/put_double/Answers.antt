@@ -1,5 +1,5 @@
 use Rattle.std.proofs.Common.{ap, ◌∙◌}
-use Rattle.reference_eval.proofs.Doing as does
+use Rattle.reference_eval.proofs.AccessSequences as does
 use Rattle.reference_eval.proofs.access_words.put_double.Goals as goal
 use Rattle.std.proofs.Common.{◌∷◌}
 use Rattle.cell_math.specs.Cell.{high_cell, low_cell}

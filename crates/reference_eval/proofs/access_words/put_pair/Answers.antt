@@ -1,5 +1,5 @@
 use Rattle.std.proofs.Common.{refl}
-use Rattle.reference_eval.proofs.Doing as does
+use Rattle.reference_eval.proofs.AccessSequences as does
 use Rattle.reference_eval.proofs.access_words.put_pair.Goals as goal
 use Rattle.std.proofs.Common.{◌∷◌}
 

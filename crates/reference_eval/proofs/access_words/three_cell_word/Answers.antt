@@ -2,7 +2,7 @@ use Rattle.std.proofs.Common.{ap, ◌∙◌, refl}
 use Rattle.forth_program.specs.Access as access
 use Rattle.cell_math.specs.Cell.{sum_of}
 use Rattle.forth_program.specs.State.{Gives}
-use Rattle.reference_eval.proofs.Doing as does
+use Rattle.reference_eval.proofs.AccessSequences as does
 use Rattle.reference_eval.proofs.access_words.three_cell_word.Goals as goal
 use Rattle.std.proofs.Common.{◌∷◌, []}
 use Rattle.word_table.specs.declared.word.Word.TheVariants as table

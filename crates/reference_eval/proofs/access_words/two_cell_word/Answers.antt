@@ -3,7 +3,7 @@ use Rattle.forth_program.specs.Access as access
 use Rattle.cell_math.specs.Cell.{sum_of}
 use Rattle.forth_program.specs.State.{Gives}
 use Rattle.forth_program.specs.PicturedOutput as picture
-use Rattle.reference_eval.proofs.Doing as does
+use Rattle.reference_eval.proofs.AccessSequences as does
 use Rattle.reference_eval.proofs.access_words.two_cell_word.Goals as goal
 use Rattle.std.proofs.Common.{◌∷◌, []}
 use Rattle.cell_math.specs.Cell.{double}

@@ -1,5 +1,5 @@
 use Rattle.forth_program.specs.Access as access
-use Rattle.reference_eval.proofs.Doing as does
+use Rattle.reference_eval.proofs.AccessSequences as does
 use Rattle.reference_eval.proofs.accesses.base.Goals as goal
 
 pub returns : goal.returns

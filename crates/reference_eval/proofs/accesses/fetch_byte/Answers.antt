@@ -1,5 +1,5 @@
 use Rattle.std.proofs.Common.{rules, ◌≡◌, sym, Err}
-use Rattle.reference_eval.proofs.Doing as does
+use Rattle.reference_eval.proofs.AccessSequences as does
 use Rattle.reference_eval.proofs.accesses.fetch_byte.Goals as goal
 
 pub returns-in_err-cell : goal.returns-in_err-cell

@@ -1,6 +1,6 @@
 use Rattle.std.proofs.Common.{rules, ◌≡◌, ap, Err, ◌+◌}
 use Rattle.forth_program.specs.Access as access
-use Rattle.reference_eval.proofs.Doing as does
+use Rattle.reference_eval.proofs.AccessSequences as does
 use Rattle.reference_eval.proofs.accesses.grow_here.Goals as goal
 
 pub returns-in_err-old : goal.returns-in_err-old

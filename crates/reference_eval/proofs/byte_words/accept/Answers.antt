@@ -1,7 +1,7 @@
 use Rattle.std.proofs.Common.{rules, ◌≡◌, refl, Err, ◌+◌, ◌-◌, arith}
 use Rattle.cell_math.specs.Cell.{sum_of}
 use Rattle.forth_program.specs.ByteWords as bytes
-use Rattle.reference_eval.proofs.Doing as does
+use Rattle.reference_eval.proofs.AccessSequences as does
 use Rattle.reference_eval.proofs.byte_words.accept.Goals as goal
 use Rattle.std.proofs.Common.{tests, true, false, ◌==◌}
 

@@ -1,6 +1,6 @@
 use Rattle.std.proofs.Common.{rules, ◌≡◌, refl, Err, ◌-◌}
 use Rattle.forth_program.specs.ByteWords as bytes
-use Rattle.reference_eval.proofs.Doing as does
+use Rattle.reference_eval.proofs.AccessSequences as does
 use Rattle.reference_eval.proofs.byte_words.emit_spaces.Goals as goal
 
 pub loop-left-init : goal.loop-left-init

@@ -2,7 +2,7 @@ use Rattle.std.proofs.Common.{ℕ, List, Option}
 use Rattle.cell_math.specs.Cell.{signed}
 use Rattle.forth_program.specs.ByteWords as bytes
 use Rattle.reference_eval.specs.Outside.{scene, Input}
-use Rattle.reference_eval.proofs.Doing.{Continues}
+use Rattle.reference_eval.proofs.AccessSequences.{Continues}
 use Rattle.reference_eval.proofs.byte_words.emit_spaces.Given as goal
 
 abbrev pub invariant-loop-left : goal.invariant-loop-left

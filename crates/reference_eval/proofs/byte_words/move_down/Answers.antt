@@ -1,7 +1,7 @@
 use Rattle.std.proofs.Common.{rules, ◌≡◌, ap, ◌∙◌, refl, Err, ◌-◌}
 use Rattle.cell_math.specs.Cell.{sum_of}
 use Rattle.forth_program.specs.ByteWords as bytes
-use Rattle.reference_eval.proofs.Doing as does
+use Rattle.reference_eval.proofs.AccessSequences as does
 use Rattle.reference_eval.proofs.byte_words.move_down.Goals as goal
 
 pub loop-left-init : goal.loop-left-init

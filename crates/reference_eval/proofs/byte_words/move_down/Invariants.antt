@@ -1,6 +1,6 @@
 use Rattle.forth_program.specs.ByteWords as bytes
 use Rattle.reference_eval.specs.Outside.{scene, input_of}
-use Rattle.reference_eval.proofs.Doing.{Continues}
+use Rattle.reference_eval.proofs.AccessSequences.{Continues}
 use Rattle.reference_eval.proofs.byte_words.move_down.Given as goal
 
 abbrev pub invariant-loop-left : goal.invariant-loop-left

@@ -1,7 +1,7 @@
 use Rattle.std.proofs.Common.{rules, ◌≡◌, ap, refl, subst, Err, Some, None, ◌-◌, suc, arith}
 use Rattle.forth_program.specs.State.{Gives}
 use Rattle.forth_program.specs.ByteWords as bytes
-use Rattle.reference_eval.proofs.Doing as does
+use Rattle.reference_eval.proofs.AccessSequences as does
 use Rattle.reference_eval.proofs.byte_words.number_from.Goals as goal
 
 pub returns-in_err-radix : goal.returns-in_err-radix

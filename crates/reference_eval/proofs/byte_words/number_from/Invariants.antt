@@ -2,7 +2,7 @@ use Rattle.forth_program.specs.State.{◌▸◌}
 use Rattle.forth_program.specs.Access.{base}
 use Rattle.forth_program.specs.ByteWords as bytes
 use Rattle.reference_eval.specs.Outside.{scene, input_of}
-use Rattle.reference_eval.proofs.Doing.{Continues}
+use Rattle.reference_eval.proofs.AccessSequences.{Continues}
 use Rattle.reference_eval.proofs.byte_words.number_from.Given as goal
 
 abbrev pub invariant-loop-left : goal.invariant-loop-left

@@ -1,7 +1,7 @@
 use Rattle.std.proofs.Common.{rules, ◌≡◌, sym, ap, Err, ◌+◌}
 use Rattle.cell_math.specs.Cell.{difference_of}
 use Rattle.forth_program.specs.State.{Gives}
-use Rattle.reference_eval.proofs.Doing as does
+use Rattle.reference_eval.proofs.AccessSequences as does
 use Rattle.reference_eval.proofs.pictures.held.Goals as goal
 
 pub returns-in_err-address : goal.returns-in_err-address

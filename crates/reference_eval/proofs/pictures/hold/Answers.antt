@@ -1,6 +1,6 @@
 use Rattle.std.proofs.Common.{rules, ◌≡◌, sym, ap, Err}
 use Rattle.forth_program.specs.Access as access
-use Rattle.reference_eval.proofs.Doing as does
+use Rattle.reference_eval.proofs.AccessSequences as does
 use Rattle.reference_eval.proofs.pictures.hold.Goals as goal
 use Rattle.reference_eval.proofs.Held as held
 

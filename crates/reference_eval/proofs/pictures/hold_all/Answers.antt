@@ -1,7 +1,7 @@
 use Rattle.std.proofs.Common.{rules, ◌≡◌, sym, ap, Err, ◌-◌, suc, arith}
 use Rattle.forth_program.specs.State.{Gives}
 use Rattle.forth_program.specs.PicturedOutput as picture
-use Rattle.reference_eval.proofs.Doing as does
+use Rattle.reference_eval.proofs.AccessSequences as does
 use Rattle.reference_eval.proofs.pictures.hold_all.Goals as goal
 use Rattle.std.proofs.Common.{zero}
 

@@ -1,6 +1,6 @@
 use Rattle.forth_program.specs.PicturedOutput as picture
 use Rattle.reference_eval.specs.Outside.{scene, input_of}
-use Rattle.reference_eval.proofs.Doing.{Continues}
+use Rattle.reference_eval.proofs.AccessSequences.{Continues}
 use Rattle.reference_eval.proofs.pictures.hold_all.Given as goal
 
 abbrev pub invariant-loop-digits : goal.invariant-loop-digits

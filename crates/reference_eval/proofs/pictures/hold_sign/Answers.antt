@@ -1,6 +1,6 @@
 use Rattle.std.proofs.Common.{rules, ◌≡◌, ap}
 use Rattle.forth_program.specs.PicturedOutput as picture
-use Rattle.reference_eval.proofs.Doing as does
+use Rattle.reference_eval.proofs.AccessSequences as does
 use Rattle.reference_eval.proofs.pictures.hold_sign.Goals as goal
 use Rattle.std.proofs.Common.{true, false}
 

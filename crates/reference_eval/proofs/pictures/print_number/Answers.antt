@@ -1,7 +1,7 @@
 use Rattle.std.proofs.Common.{rules, ◌≡◌, ap, Err}
 use Rattle.forth_program.specs.Access as access
 use Rattle.forth_program.specs.PicturedOutput as picture
-use Rattle.reference_eval.proofs.Doing as does
+use Rattle.reference_eval.proofs.AccessSequences as does
 use Rattle.reference_eval.proofs.pictures.print_number.Goals as goal
 use Rattle.reference_eval.proofs.Held as held
 

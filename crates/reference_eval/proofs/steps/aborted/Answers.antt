@@ -1,7 +1,7 @@
 use Rattle.std.proofs.Common.{subst}
 use Rattle.forth_program.specs.State.{Stops, Halted}
 use Rattle.reference_eval.specs.Answers.{Does, answer_of}
-use Rattle.reference_eval.proofs.Doing as does
+use Rattle.reference_eval.proofs.AccessSequences as does
 use Rattle.reference_eval.proofs.steps.aborted.Goals as goal
 
 pub returns-in-Ok : goal.returns-in-Ok

@@ -1,5 +1,5 @@
 use Rattle.std.proofs.Common.{refl, ◌∙◌, sym}
-use Rattle.reference_eval.proofs.Reaching.{fetched_as, fetched_end, fetched_key}
+use Rattle.reference_eval.proofs.AccessResults.{fetched_as, fetched_end, fetched_key}
 use Rattle.reference_eval.proofs.memory.Memory.fetch.Goals as goal
 
 pub returns-in-Data : goal.returns-in-Data

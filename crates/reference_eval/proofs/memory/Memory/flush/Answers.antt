@@ -1,5 +1,5 @@
 use Rattle.std.proofs.Common.{refl, ap, sym}
-use Rattle.reference_eval.proofs.Reaching.{flushed, not_flushed}
+use Rattle.reference_eval.proofs.AccessResults.{flushed, not_flushed}
 use Rattle.reference_eval.specs.Outside.{MemoryState}
 use Rattle.reference_eval.proofs.memory.Memory.flush.Goals as goal
 

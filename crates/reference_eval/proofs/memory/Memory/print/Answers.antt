@@ -1,8 +1,8 @@
 use Rattle.std.proofs.Common.{refl, ap, subst, sym}
 use Rattle.reference_eval.specs.Outside.{Whole}
 use Rattle.reference_eval.specs.Steps.{IsSame, Prints}
-use Rattle.reference_eval.proofs.Reaching.{prints}
-use Rattle.reference_eval.proofs.Leading.{leads_then}
+use Rattle.reference_eval.proofs.AccessResults.{prints}
+use Rattle.reference_eval.proofs.SceneSteps.{leads_then}
 use Rattle.reference_eval.proofs.memory.Memory.print.Goals as goal
 
 pub returns-then-not-self : goal.returns-then-not-self

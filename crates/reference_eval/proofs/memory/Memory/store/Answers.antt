@@ -1,6 +1,6 @@
 use Rattle.std.proofs.Common.{refl, ap, ◌∙◌, true, sym}
 use Rattle.console_ports.specs.Ports.{access_at}
-use Rattle.reference_eval.proofs.Reaching.{stored_as, stored_end, stored_print}
+use Rattle.reference_eval.proofs.AccessResults.{stored_as, stored_end, stored_print}
 use Rattle.reference_eval.proofs.memory.Memory.store.Goals as goal
 
 pub returns-in-Data : goal.returns-in-Data

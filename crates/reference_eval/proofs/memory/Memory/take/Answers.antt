@@ -1,6 +1,6 @@
 use Rattle.std.proofs.Common.{ap, ◌∙◌, sym}
 use Rattle.reference_eval.specs.Outside.{IsWrittenOut}
-use Rattle.reference_eval.proofs.Reaching.{after_same, not_written, took_as, ended_as, not_read_as}
+use Rattle.reference_eval.proofs.AccessResults.{after_same, not_written, took_as, ended_as, not_read_as}
 use Rattle.reference_eval.proofs.memory.Memory.take.Goals.{in-Ok-Some, in-Ok-None, in-Err}
 use Rattle.reference_eval.proofs.memory.Memory.take.Goals as goal
 

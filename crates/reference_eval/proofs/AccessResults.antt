@@ -16,8 +16,8 @@ use Rattle.forth_program.specs.Access.{fetch, fetch_by, store, store_by, taken, 
 use Rattle.reference_eval.specs.Outside.{MemoryState, Scene, Input, scene, Shows, Holds, HoldsFront, Written, Whole, Dry, NotRead, NotWritten, LosesBytes, Loses, IsWrittenOut, Leads}
 use Rattle.reference_eval.specs.Steps.{IsSame, Prints}
 use Rattle.reference_eval.specs.Answers.{Answer, Gave, Ended, ReadFailed, WriteFailed, Does, Reaches, reach_of, answer_of}
-use Rattle.reference_eval.proofs.Holding.{holds_more, holds_flushed, holds_front, front_more}
-use Rattle.reference_eval.proofs.Leading.{stays, leads_as, leads_then, loses_nothing}
+use Rattle.reference_eval.proofs.OutputContents.{holds_more, holds_flushed, holds_front, front_more}
+use Rattle.reference_eval.proofs.SceneSteps.{stays, leads_as, leads_then, loses_nothing}
 
 written_to : (failed : Bool) (before now after : Option (List ℕ)) (waiting printed : List ℕ) → failed ≡ false → Appends now after waiting → Written failed before now waiting printed → Written failed before after [] printed
 written_to true before now after waiting printed e a h = absurd cc

@@ -13,7 +13,7 @@ use Rattle.reference_eval.specs.declared.ends.Stop.TheVariants as stop
 use Rattle.reference_eval.specs.Ends.{end_of}
 use Rattle.reference_eval.specs.Outside.{Scene, Whole, Shows}
 use Rattle.reference_eval.specs.Answers.{Answer, Gave, Ended, LacksMemory, Does, Reaches, Leaves, cells_answer, reach_of, reach_of_end, answer_of, halted, after}
-use Rattle.reference_eval.proofs.Leading.{stays, leads_as, leads_then}
+use Rattle.reference_eval.proofs.SceneSteps.{stays, leads_as, leads_then}
 
 -- nothing is asked for
 pub gives : {A : Type 0} (x : A) (s : Scene) → Does (λ w. Gives x w) (Gave x) s s
