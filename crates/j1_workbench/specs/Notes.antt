@@ -7,7 +7,8 @@ use Rattle.depth_certifier.specs.declared.effect.CertCause.TheVariants as certif
 use Rattle.step_certifier.specs.declared.bound.BoundCause.{BoundCause}
 use Rattle.step_certifier.specs.declared.bound.BoundCause.TheVariants as bound
 use Rattle.j1_workbench.specs.declared.status.Status.{Status}
-use Rattle.j1_workbench.specs.declared.status.Status.TheVariants.{Done, BadWords, Missing, SourceRefused, NotCertified, StepsUsed, InputEnded, Outside, Halted, ReadFault, WriteFault, OutOfMemory, TooLarge, Underflow, Unbalanced, NotYet, BadImage, BadListing, BoundRefused}
+use Rattle.j1_workbench.specs.declared.status.Status.TheVariants.{Done, BadWords, Missing, SourceRefused, NotCertified, StepsUsed, InputEnded, Outside, Halted}
+use Rattle.j1_workbench.specs.declared.status.Status.TheVariants.{ReadFault, WriteFault, OutOfMemory, TooLarge, Underflow, Unbalanced, NotYet, BadImage, BadListing, BoundRefused}
 
 -- the file that is read: the word behind the command
 abbrev pub file_named : List (List ℕ) → List ℕ

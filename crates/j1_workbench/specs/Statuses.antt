@@ -1,7 +1,8 @@
 -- The number of each status, and the status of a run's end.
 use Rattle.std.specs.Prelude.{ℕ, zero, suc, Option, Some, None}
 use Rattle.j1_workbench.specs.declared.status.Status.{Status}
-use Rattle.j1_workbench.specs.declared.status.Status.TheVariants.{Done, BadWords, Missing, SourceRefused, NotCertified, StepsUsed, InputEnded, Outside, Halted, ReadFault, WriteFault, OutOfMemory, TooLarge, Underflow, Unbalanced, NotYet, BadImage, BadListing, BoundRefused}
+use Rattle.j1_workbench.specs.declared.status.Status.TheVariants.{Done, BadWords, Missing, SourceRefused, NotCertified, StepsUsed, InputEnded, Outside, Halted}
+use Rattle.j1_workbench.specs.declared.status.Status.TheVariants.{ReadFault, WriteFault, OutOfMemory, TooLarge, Underflow, Unbalanced, NotYet, BadImage, BadListing, BoundRefused}
 use Rattle.j1_simulator.specs.declared.ends.End.{End}
 use Rattle.j1_simulator.specs.declared.ends.End.TheVariants as ends
 

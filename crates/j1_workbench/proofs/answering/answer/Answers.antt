@@ -14,7 +14,8 @@ returns-in-Some-Bound g c =
 pub returns-in-Some-Build : goal.returns-in-Some-Build
 returns-in-Some-Build g c =
     does_build _ c.in-Some-Build.source.now c.in-Some-Build.image.now _ _ _ _ (search rules)
-    (c.build.ensures (stream (g.C.Source.left c.args.console.now) (g.C.Source.calls c.args.console.now) (g.C.Source.faults c.args.console.now)) (stream (g.O.Sink.held c.args.out.now) (g.O.Sink.calls c.args.out.now) (g.O.Sink.faults c.args.out.now)))
+    (c.build.ensures (stream (g.C.Source.left c.args.console.now) (g.C.Source.calls c.args.console.now) (g.C.Source.faults c.args.console.now))
+    (stream (g.O.Sink.held c.args.out.now) (g.O.Sink.calls c.args.out.now) (g.O.Sink.faults c.args.out.now)))
 
 pub returns-in-Some-ListImage : goal.returns-in-Some-ListImage
 returns-in-Some-ListImage g c =
@@ -24,7 +25,8 @@ returns-in-Some-ListImage g c =
 pub returns-in-Some-Assemble : goal.returns-in-Some-Assemble
 returns-in-Some-Assemble g c =
     does_assemble _ c.in-Some-Assemble.listing.now c.in-Some-Assemble.image.now _ _ _ c.answered-in-Some-Assemble.result (search rules) c.answered-in-Some-Assemble.ensures
-    (c.assemble_file.ensures (stream (g.C.Source.left c.args.console.now) (g.C.Source.calls c.args.console.now) (g.C.Source.faults c.args.console.now)) (stream (g.O.Sink.held c.args.out.now) (g.O.Sink.calls c.args.out.now) (g.O.Sink.faults c.args.out.now)))
+    (c.assemble_file.ensures (stream (g.C.Source.left c.args.console.now) (g.C.Source.calls c.args.console.now) (g.C.Source.faults c.args.console.now))
+    (stream (g.O.Sink.held c.args.out.now) (g.O.Sink.calls c.args.out.now) (g.O.Sink.faults c.args.out.now)))
 
 pub returns-in-Some-Evaluate : goal.returns-in-Some-Evaluate
 returns-in-Some-Evaluate g c = does_evaluate _ c.in-Some-Evaluate.source.now c.in-Some-Evaluate.steps c.steps_allowed-in-Some-Evaluate.result _ _ _ _ (search rules) c.steps_allowed-in-Some-Evaluate.ensures c.evaluate_source.ensures

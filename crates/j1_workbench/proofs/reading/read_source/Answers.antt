@@ -11,7 +11,9 @@ use Rattle.j1_workbench.proofs.reading.read_source.Goals as goal
 pub returns-in-Ok-clause-found : goal.returns-in-Ok-clause-found
 returns-in-Ok-clause-found g c =
     let before = folder (g.F.Folder.files c.args.files.now) (g.F.Folder.calls c.args.files.now) (g.F.Folder.read_faults c.args.files.now) (g.F.Folder.write_faults c.args.files.now) (g.F.Folder.absences c.args.files.now) in
-    let after = folder (g.F.Folder.files c.read_file.new.files) (g.F.Folder.calls c.read_file.new.files) (g.F.Folder.read_faults c.read_file.new.files) (g.F.Folder.write_faults c.read_file.new.files) (g.F.Folder.absences c.read_file.new.files) in
+    let after =
+    folder (g.F.Folder.files c.read_file.new.files) (g.F.Folder.calls c.read_file.new.files) (g.F.Folder.read_faults c.read_file.new.files)
+    (g.F.Folder.write_faults c.read_file.new.files) (g.F.Folder.absences c.read_file.new.files) in
     let read = subst (IsRead 65536 c.args.source.now before) (sym c.as_slice.ensures.value) c.in-Ok.ensures.found in
     on_either
     (λ program. IsReadText c.as_slice.result.now program) (λ program. IsReadSource c.args.source.now before program)
