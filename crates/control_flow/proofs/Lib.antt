@@ -1,10 +1,13 @@
 pub mod Examples
+pub mod Weights
 pub mod Readings
 pub mod ItemLists
 pub mod ArmLists
+pub mod BracketSteps
 pub mod Nests
 pub mod Senses
 pub mod Moves
+pub mod HostFacts
 pub mod ItemFacts
 pub mod SourceFacts
 pub mod SourceSteps

@@ -47,6 +47,7 @@ pub record Moves (w : ℕ) (from at : ParserState) : Type 0 where
   pub light : at.weight ≤ 2400
   pub count : at.count ≡ from.count
   pub rest : at.rest ≡ from.rest
+  pub host : at.host ≡ from.host
 
 weighs_on : (number w : ℕ) (from at : ParserState) (fits : Bool) → nat_le (at.weight + w) 2400 ≡ fits → from ≡ record at { nest = from.nest } →
     Good (λ x. Moves w from x × (x.nest ≡ at.nest)) (elim fits [ true ↦ Fine (record at { weight = at.weight + w }) | false ↦ Refused number cause.CodeFull ])
@@ -58,6 +59,7 @@ weighs_on number w from at true e s = (
     light = leb-true (at.weight + w) 2400 e;
     count = sym (ap (λ (p : ParserState). p.count) s);
     rest = sym (ap (λ (p : ParserState). p.rest) s);
+    host = sym (ap (λ (p : ParserState). p.host) s);
   },
   refl,
 )

@@ -2,9 +2,9 @@
 use Rattle.std.proofs.Common.{◌≡◌, ℕ, suc, ◌+◌, ◌<◌, ◌≤◌, nat_le, ◌==◌, ◌&&◌, Bool, true, false, List, [], ◌∷◌, length, refl, arith, leb-true}
 use Rattle.std.proofs.lemmas.Bool.{and_parts}
 use Rattle.forth_reader.specs.declared.refusal.ReadCause.TheVariants as read
-use Rattle.forth_reader.specs.Bytes.{is_graphic, is_blank, is_source_byte, graphic_front, behind_graphic}
-use Rattle.control_flow.specs.Items.{first_byte}
-use Rattle.forth_reader.specs.Reading.{Reading, NoMore, Reads, Refuses, ends_token, may_follow_token, whole_token, name_from, next_from, parenthesis_from, line_from}
+use Rattle.forth_reader.specs.Bytes.{is_graphic, is_blank, is_source_byte, is_string_byte, passing_front, behind_front, graphic_front, behind_graphic}
+use Rattle.control_flow.specs.ReadTokens.{first_byte}
+use Rattle.forth_reader.specs.Reading.{Reading, NoMore, Reads, Refuses, ends_token, may_follow_token, whole_token, name_from, next_from, parenthesis_from, line_from, StringReading, Quoted, Unquoted, ended_by, string_from}
 
 -- behind so many tokens: where one was read, its number is greater, fewer than so many bytes are left behind it, and it begins with a byte
 abbrev pub Passes : ℕ → ℕ → Reading → Type 0
@@ -16,9 +16,38 @@ front_on : (g : Bool) (b : ℕ) (bs rest : List ℕ) → length rest ≤ length 
 front_on true b bs rest h = omega arith
 front_on false b bs rest h = omega arith
 
+front_short : (test : ℕ → Bool) (bs : List ℕ) → length (behind_front test bs) ≤ length bs
+front_short test [] = omega arith
+front_short test (b ∷ bs) = front_on (test b) b bs (behind_front test bs) (front_short test bs)
+
 behind_short : (bs : List ℕ) → length (behind_graphic bs) ≤ length bs
-behind_short [] = omega arith
-behind_short (b ∷ bs) = front_on (is_graphic b) b bs (behind_graphic bs) (behind_short bs)
+behind_short bs = front_short is_graphic bs
+
+-- a text that is read leaves no more bytes than there were
+abbrev pub Leaves : ℕ → StringReading → Type 0
+Leaves bound (Quoted text rest) = length rest ≤ bound
+Leaves bound (Unquoted c) = Unit {0}
+
+quoted_on : (bound : ℕ) (text rest : List ℕ) (quote line : Bool) → length rest ≤ bound →
+    Leaves bound (elim quote [ true ↦ Quoted text rest | false ↦ elim line [ true ↦ Unquoted read.OpenString | false ↦ Unquoted read.NotText ] ])
+quoted_on bound text rest true line h = h
+quoted_on bound text rest false true h = tt
+quoted_on bound text rest false false h = tt
+
+ended_leaves : (bound : ℕ) (text bs : List ℕ) → length bs ≤ bound → Leaves bound (ended_by text bs)
+ended_leaves bound text [] h = tt
+ended_leaves bound text (b ∷ rest) h = quoted_on bound text rest (b == 34) (b == 10) (omega arith)
+
+separated_on : (bound : ℕ) (line fits : Bool) (reading : StringReading) → Leaves bound reading →
+    Leaves bound (elim line [ true ↦ Unquoted read.OpenString | false ↦ elim fits [ true ↦ reading | false ↦ Unquoted read.NotText ] ])
+separated_on bound true fits reading h = tt
+separated_on bound false true reading h = h
+separated_on bound false false reading h = tt
+
+pub string_leaves : (bs : List ℕ) → Leaves (length bs) (string_from bs)
+string_leaves [] = tt
+string_leaves (b ∷ bs) = separated_on (suc (length bs)) (b == 10) (is_source_byte b) _
+    (ended_leaves (suc (length bs)) (passing_front is_string_byte bs) (behind_front is_string_byte bs) (omega (arith, front_short is_string_byte bs)))
 
 module _ (before bound : ℕ) where
   whole_on : (k : ℕ) (token rest : List ℕ) (follows short : Bool) → Passes before bound (Reads token k rest) →

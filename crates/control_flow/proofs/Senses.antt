@@ -1,10 +1,10 @@
 -- What a token stands for, and what holds of it.
 use Rattle.std.proofs.Common.{◌≡◌, ℕ, ◌<◌, ◌≤◌, nat_le, ◌==◌, Bool, true, false, ◌&&◌, List, [], ◌∷◌, ◌++◌, length, Option, Some, None, refl, ap, subst, arith, leb-true}
-use Rattle.std.specs.Prelude.{slice_index_or}
+use Rattle.std.specs.Prelude.{slice_index_or, Result, Ok, Err}
 use Rattle.std.specs.List.{list_all}
-use Rattle.std.proofs.lemmas.Bool.{eqb-false, and_parts}
+use Rattle.std.proofs.lemmas.Bool.{eqb-false, and_parts, and_from, lt-ltb}
 use Rattle.word_table.specs.declared.word.Word.{Word}
-use Rattle.word_table.specs.declared.word.Word.TheVariants.{ToR, RFrom, RFetch, Index, OuterIndex, Unloop, Execute}
+use Rattle.word_table.specs.declared.word.Word.TheVariants.{ToR, RFrom, RFetch, Index, OuterIndex, Unloop, Create}
 use Rattle.word_table.specs.declared.word.Class.{Class}
 use Rattle.word_table.specs.declared.word.Class.TheVariants as class
 use Rattle.word_table.specs.Table.{entry_of}
@@ -13,44 +13,75 @@ use Rattle.forth_reader.specs.Bytes.{is_graphic}
 use Rattle.forth_reader.specs.declared.number.NumberRead.{NumberRead}
 use Rattle.forth_reader.specs.declared.number.NumberRead.TheVariants as number
 use Rattle.forth_reader.specs.Number.{is_digit, digits_value, signed_cell, digits_read, signed_read, based_read, prefix_base, unprefixed_read, number_read}
+use Rattle.forth_program.specs.Tree.{Plain}
+use Rattle.forth_program.specs.Form.{is_code_class, may_be_token}
 use Rattle.dictionary_core.specs.Pairs.{Pair, newest_value}
 use Rattle.dictionary_core.specs.Buckets.{is_same_name}
+use Rattle.host_state.specs.declared.entry.Entry.{Entry}
+use Rattle.host_state.specs.declared.entry.Known.{Known}
+use Rattle.host_state.specs.declared.entry.Known.TheVariants as known
+use Rattle.host_state.specs.declared.entry.Ticked.{Ticked}
+use Rattle.host_state.specs.declared.entry.Ticked.TheVariants as ticked
+use Rattle.control_flow.specs.declared.refusal.SourceCause.{SourceCause}
+use Rattle.control_flow.specs.declared.refusal.SourceCause.TheVariants as cause
 use Rattle.control_flow.specs.declared.sense.Sense.{Sense}
 use Rattle.control_flow.specs.declared.sense.Sense.TheVariants as sense
-use Rattle.control_flow.specs.Sense.{number_sense, structure_sense, library_sense, class_sense, sense_by, sense_of, sense_in}
-use Rattle.forth_program.specs.Form.{is_code_class}
-use Rattle.control_flow.specs.SourceLaw.{is_plain}
+use Rattle.control_flow.specs.Sense.{number_sense, structure_sense, acting_sense, class_sense, known_sense, sense_by, sense_in}
+use Rattle.control_flow.specs.Ticks.{known_ticked, word_ticked, ticked_in, known_node, ticked_node}
+use Rattle.control_flow.specs.SourceLaw.{is_plain, is_read_token}
 
--- each name stands for a definition whose number is below N
-abbrev pub AllBelow : ℕ → List (Pair ℕ) → Type 0
+-- definitions have numbers below N, constants are cells, and addresses are below 0x8000
+abbrev pub IsKnown : ℕ → Known → Type 0
+IsKnown N (known.Definition definition) = definition < N
+IsKnown N (known.Constant x) = x < 65536
+IsKnown N (known.Address address) = address < 32768
+IsKnown N (known.Child part address) = (part < N) × (address < 32768)
+IsKnown N (known.Defining number) = Unit {0}
+
+known_wider : (N M : ℕ) (k : Known) → N ≤ M → IsKnown N k → IsKnown M k
+known_wider N M (known.Definition definition) h k = omega (arith, k)
+known_wider N M (known.Constant x) h k = k
+known_wider N M (known.Address address) h k = k
+known_wider N M (known.Child part address) h k = (omega (arith, k.0), k.1)
+known_wider N M (known.Defining number) h k = tt
+
+-- so does each name
+abbrev pub AllBelow : ℕ → List (Pair Entry) → Type 0
 AllBelow N [] = Unit {0}
-AllBelow N (p ∷ ps) = (p.value < N) × AllBelow N ps
+AllBelow N (p ∷ ps) = IsKnown N p.value.known × AllBelow N ps
 
-below_on : (N v id : ℕ) (o : Option ℕ) (t : Bool) → ((id : ℕ) → o ≡ Some id → id < N) → v < N → elim o as (λ o. Option ℕ) [ Some w ↦ Some w | None ↦ elim t as (λ t. Option ℕ) [ true ↦ Some v | false ↦ None ] ] ≡ Some id → id < N
-below_on N v id (Some w) t more h e = more id e
-below_on N v id None true more h e =
-    let is : v ≡ id = cc in
-    subst (λ n. n < N) is h
-below_on N v id None false more h e = absurd cc
+below_on : (N : ℕ) (v one : Entry) (o : Option Entry) (t : Bool) → ((one : Entry) → o ≡ Some one → IsKnown N one.known) → IsKnown N v.known →
+    elim o as (λ o. Option Entry) [ Some w ↦ Some w | None ↦ elim t as (λ t. Option Entry) [ true ↦ Some v | false ↦ None ] ] ≡ Some one → IsKnown N one.known
+below_on N v one (Some w) t more h e = more one e
+below_on N v one None true more h e =
+    let is : v ≡ one = cc in
+    subst (λ (x : Entry). IsKnown N x.known) is h
+below_on N v one None false more h e = absurd cc
 
-pub newest_below : (N : ℕ) (entries : List (Pair ℕ)) (asked : List ℕ) (id : ℕ) → AllBelow N entries → newest_value entries asked ≡ Some id → id < N
-newest_below N [] asked id h e = absurd cc
-newest_below N (p ∷ ps) asked id h e = below_on N p.value id (newest_value ps asked) (is_same_name asked p.name) (λ id f. newest_below N ps asked id h.1 f) h.0 e
+pub newest_below : (N : ℕ) (entries : List (Pair Entry)) (asked : List ℕ) (one : Entry) → AllBelow N entries → newest_value entries asked ≡ Some one → IsKnown N one.known
+newest_below N [] asked one h e = absurd cc
+newest_below N (p ∷ ps) asked one h e = below_on N p.value one (newest_value ps asked) (is_same_name asked p.name) (λ one f. newest_below N ps asked one h.1 f) h.0 e
 
-pub below_more : (N : ℕ) (entries : List (Pair ℕ)) (p : Pair ℕ) → AllBelow N entries → p.value < N → AllBelow N (entries ++ p ∷ [])
+pub below_more : (N : ℕ) (entries : List (Pair Entry)) (p : Pair Entry) → AllBelow N entries → IsKnown N p.value.known → AllBelow N (entries ++ p ∷ [])
 below_more N [] p h k = (k, tt)
 below_more N (q ∷ qs) p h k = (h.0, below_more N qs p h.1 k)
 
-pub below_wider : (N M : ℕ) (entries : List (Pair ℕ)) → N ≤ M → AllBelow N entries → AllBelow M entries
+pub below_wider : (N M : ℕ) (entries : List (Pair Entry)) → N ≤ M → AllBelow N entries → AllBelow M entries
 below_wider N M [] h k = tt
-below_wider N M (p ∷ ps) h k = (omega (arith, k.0), below_wider N M ps h k.1)
+below_wider N M (p ∷ ps) h k = (known_wider N M p.value.known h k.0, below_wider N M ps h k.1)
 
--- a number that is read is a cell, a word is plain, and a definition has a number below N
+-- a number that is read is a cell, a word is plain, and definitions and children are such
 abbrev pub IsSense : ℕ → Sense → Type 0
 IsSense N (sense.Number value) = value < 65536
 IsSense N (sense.Plain word) = is_plain word ≡ true
-IsSense N (sense.Calls id) = id < N
+IsSense N (sense.Calls definition) = definition < N
+IsSense N (sense.Inherits part address) = (part < N) × (address < 32768)
 IsSense N s = Unit {0}
+
+-- a token that is ticked stands for such an item
+abbrev pub IsTicked : ℕ → Result Ticked SourceCause → Type 0
+IsTicked N (Ok one) = is_read_token N (ticked_node one) ≡ true
+IsTicked N (Err c) = Unit {0}
 
 module _ (N : ℕ) where
   structure_is : (word : Word) → IsSense N (structure_sense word)
@@ -62,31 +93,24 @@ module _ (N : ℕ) where
   structure_is Unloop = refl
   structure_is word = tt
 
-  inline_is : (word : Word) → (entry_of word).class ≡ class.Inline → is_plain word ≡ true
-  inline_is Execute e = (let no : ⊥ = cc in absurd no)
-  inline_is ToR e = refl
-  inline_is RFrom e = refl
-  inline_is RFetch e = refl
-  inline_is Index e = refl
-  inline_is OuterIndex e = refl
-  inline_is Unloop e = refl
-  inline_is word e = ap is_code_class e
+  code_is : (word : Word) → is_code_class ((entry_of word).class) ≡ true → is_plain word ≡ true
+  code_is ToR e = refl
+  code_is RFrom e = refl
+  code_is RFetch e = refl
+  code_is Index e = refl
+  code_is OuterIndex e = refl
+  code_is Unloop e = refl
+  code_is word e = e
 
-  library_is : (word : Word) → (entry_of word).class ≡ class.Library → IsSense N (library_sense word)
-  library_is Execute e = tt
-  library_is ToR e = refl
-  library_is RFrom e = refl
-  library_is RFetch e = refl
-  library_is Index e = refl
-  library_is OuterIndex e = refl
-  library_is Unloop e = refl
-  library_is word e = ap is_code_class e
+  acting_is : (word : Word) → IsSense N (acting_sense word)
+  acting_is Create = tt
+  acting_is word = tt
 
   class_is : (kind : Class) (word : Word) → (entry_of word).class ≡ kind → IsSense N (class_sense kind word)
-  class_is class.Inline word e = inline_is word e
-  class_is class.Library word e = library_is word e
+  class_is class.Inline word e = code_is word (ap is_code_class e)
+  class_is class.Library word e = code_is word (ap is_code_class e)
   class_is class.Structure word e = structure_is word
-  class_is class.Host word e = tt
+  class_is class.Host word e = acting_is word
 
   either_is : (test : Bool) (r s : NumberRead) → (test ≡ true → IsSense N (number_sense r)) → (test ≡ false → IsSense N (number_sense s)) → IsSense N (number_sense (elim test [ true ↦ r | false ↦ s ]))
   either_is true r s h k = h refl
@@ -130,13 +154,53 @@ module _ (N : ℕ) where
   number_is base [] = tt
   number_is base (b ∷ bs) = prefixed_on base b bs (prefix_base b)
 
-  token_is : (token : List ℕ) (found : Option Word) → IsSense N (sense_by token found)
-  token_is token (Some word) = class_is ((entry_of word).class) word refl
-  token_is token None = number_is 10 token
+  known_is : (k : Known) → IsKnown N k → IsSense N (known_sense k)
+  known_is (known.Definition definition) h = h
+  known_is (known.Constant x) h = h
+  known_is (known.Address address) h = omega (arith, h)
+  known_is (known.Child part address) h = h
+  known_is (known.Defining number) h = tt
 
-  entry_on : (entries : List (Pair ℕ)) (token : List ℕ) (o : Option ℕ) → newest_value entries token ≡ o → AllBelow N entries → IsSense N (elim o as (λ o. Sense) [ Some id ↦ sense.Calls id | None ↦ sense_of token ])
-  entry_on entries token (Some id) e h = newest_below N entries token id h e
-  entry_on entries token None e h = token_is token (word_named token)
+  token_is : (base : ℕ) (token : List ℕ) (found : Option Word) → IsSense N (sense_by base token found)
+  token_is base token (Some word) = class_is ((entry_of word).class) word refl
+  token_is base token None = number_is base token
 
-  pub sense_is : (entries : List (Pair ℕ)) (token : List ℕ) → AllBelow N entries → IsSense N (sense_in entries token)
-  sense_is entries token h = entry_on entries token (newest_value entries token) refl h
+  entry_on : (entries : List (Pair Entry)) (base : ℕ) (token : List ℕ) (o : Option Entry) → newest_value entries token ≡ o → AllBelow N entries →
+      IsSense N (elim o as (λ o. Sense) [ Some entry ↦ known_sense entry.known | None ↦ sense_by base token (word_named token) ])
+  entry_on entries base token (Some entry) e h = known_is entry.known (newest_below N entries token entry h e)
+  entry_on entries base token None e h = token_is base token (word_named token)
+
+  pub sense_is : (entries : List (Pair Entry)) (base : ℕ) (token : List ℕ) → AllBelow N entries → IsSense N (sense_in entries base token)
+  sense_is entries base token h = entry_on entries base token (newest_value entries token) refl h
+
+  -- ---- names that are ticked
+
+  known_token : (k : Known) → IsKnown N k → is_read_token N (known_node k) ≡ true
+  known_token (known.Definition definition) h = lt-ltb definition N h
+  known_token (known.Constant x) h = lt-ltb x 65536 h
+  known_token (known.Address address) h = lt-ltb address 65536 (omega (arith, h))
+  known_token (known.Child part address) h = and_from _ _ (lt-ltb part N h.0) (lt-ltb address 32768 h.1)
+  known_token (known.Defining number) h = refl
+
+  entry_token : (entry : Entry) (k : Known) → IsKnown N entry.known → IsTicked N (known_ticked entry k)
+  entry_token entry (known.Definition definition) h = known_token entry.known h
+  entry_token entry (known.Constant x) h = known_token entry.known h
+  entry_token entry (known.Address address) h = known_token entry.known h
+  entry_token entry (known.Child part address) h = known_token entry.known h
+  entry_token entry (known.Defining number) h = tt
+
+  word_on : (word : Word) (t : Bool) → may_be_token (Plain word) ≡ t → IsTicked N (elim t as (λ t. Result Ticked SourceCause) [ true ↦ Ok (ticked.Word word) | false ↦ Err cause.NeedsName ])
+  word_on word true e = e
+  word_on word false e = tt
+
+  word_token : (found : Option Word) → IsTicked N (word_ticked found)
+  word_token (Some word) = word_on word (may_be_token (Plain word)) refl
+  word_token None = tt
+
+  name_on : (entries : List (Pair Entry)) (name : List ℕ) (o : Option Entry) → newest_value entries name ≡ o → AllBelow N entries →
+      IsTicked N (elim o as (λ o. Result Ticked SourceCause) [ Some entry ↦ known_ticked entry entry.known | None ↦ word_ticked (word_named name) ])
+  name_on entries name (Some entry) e h = entry_token entry entry.known (newest_below N entries name entry h e)
+  name_on entries name None e h = word_token (word_named name)
+
+  pub ticked_is : (entries : List (Pair Entry)) (name : List ℕ) → AllBelow N entries → IsTicked N (ticked_in entries name)
+  ticked_is entries name h = name_on entries name (newest_value entries name) refl h

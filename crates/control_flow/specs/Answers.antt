@@ -1,6 +1,7 @@
 -- What calls answer.
-use Rattle.std.specs.Prelude.{◌≡◌, ◌≤◌, map, length, None, Result, Ok, Err}
+use Rattle.std.specs.Prelude.{◌≡◌, ◌≤◌, map, length, true, None, Result, Ok, Err}
 use Rattle.forth_program.specs.ItemTrees.{tree_of}
+use Rattle.host_state.specs.HostMemory.{is_here_within}
 use Rattle.control_flow.specs.declared.parser.Parser.{Parser}
 use Rattle.control_flow.specs.declared.source.ReadSource.{ReadSource}
 use Rattle.control_flow.specs.declared.refusal.SourceError.{SourceError}
@@ -17,12 +18,14 @@ parser_state c = record {
   nest = c.nest;
   entries = c.dictionary.pairs;
   definitions = c.definitions;
+  host = c.host;
 }
 
--- a parser that can go on: its reader has refused nothing, and the weights are within the limit
+-- a parser that can go on: its reader has refused nothing, the weights are within the limit, and HERE is in data space
 pub record IsReadyParser (c : Parser) : Type 0 where
   pub sound : c.reader.failed ≡ None
   pub light : c.weight ≤ 2400
+  pub settled : is_here_within c.host.space ≡ true
 
 -- what is read so far
 abbrev pub source_of : ReadSource → Source

@@ -1,9 +1,15 @@
 -- The items of a definition, up to the word that ends them (the control-flow stack of ANS Forth).
-use Rattle.std.specs.Prelude.{ℕ, zero, suc, ◌+◌, true, false, List, [], ◌∷◌, Result, Ok, Err}
+use Rattle.std.specs.Prelude.{ℕ, zero, suc, ◌+◌, true, false, List, [], ◌∷◌, length, Result, Ok, Err}
+use Rattle.word_table.specs.declared.word.Word.{Word}
 use Rattle.word_table.specs.declared.word.Word.TheVariants as word
 use Rattle.word_table.specs.Table.{entry_of}
-use Rattle.forth_program.specs.Tree.{Node, Nodes, Arms, Literal, Plain, Call, If, Until, While, Again, Do, QDo, Case, Leave, Exit, Empty, Then, NoArm, Arm}
-use Rattle.forth_reader.specs.Reading.{Reading, NoMore, Reads, Refuses, next_from, name_from}
+use Rattle.forth_program.specs.declared.item.TextKind.{TextKind}
+use Rattle.forth_program.specs.declared.item.TextKind.TheVariants as text
+use Rattle.forth_program.specs.Tree.{Node, Nodes, Arms, Literal, Plain, Call, Child, Text, If, Until, While, Again, Do, QDo, Case, Leave, Exit, Empty, Then, NoArm, Arm}
+use Rattle.host_state.specs.declared.entry.Ticked.{Ticked}
+use Rattle.host_state.specs.HostCells.{pop}
+use Rattle.host_state.specs.HostMemory.{checked}
+use Rattle.host_state.specs.Naming.{tick, string_laid}
 use Rattle.control_flow.specs.declared.refusal.SourceCause.{SourceCause}
 use Rattle.control_flow.specs.declared.refusal.SourceCause.TheVariants as cause
 use Rattle.control_flow.specs.declared.nest.Open.{Open}
@@ -14,13 +20,11 @@ use Rattle.control_flow.specs.declared.nest.Ending.TheVariants as ending
 use Rattle.control_flow.specs.declared.sense.Sense.{Sense}
 use Rattle.control_flow.specs.declared.sense.Sense.TheVariants as sense
 use Rattle.control_flow.specs.Nest.{open_of, with_open, nest_ended, is_inside_do}
-use Rattle.control_flow.specs.Sense.{opening_word, ending_word, sense_in}
-use Rattle.control_flow.specs.ParseResult.{ParserState, ParseResult, Fine, Refused, NotBuilt, Endless, ◌>>=◌, source_cause, weighed_as, weighed, unfit}
-
--- a token that was read, by what it stands for, and where it ends
-pub record ReadToken : Type 0 where
-  pub sense : Sense
-  pub at : ParserState
+use Rattle.control_flow.specs.Sense.{opening_word, ending_word}
+use Rattle.control_flow.specs.Ticks.{ticked_in, tick_weight}
+use Rattle.control_flow.specs.ReadTokens.{ReadToken, token_at, Named, spelled_at, first_byte, quotation_at}
+use Rattle.control_flow.specs.Brackets.{bracket_at}
+use Rattle.control_flow.specs.ParseResult.{ParserState, ParseResult, Fine, Refused, Endless, ◌>>=◌, hosted_as, weighed_as, weighed, forbidden, unfit}
 
 -- an item, and where it ends
 pub record One : Type 0 where
@@ -43,29 +47,6 @@ pub record Cases : Type 0 where
   pub arms : Arms
   pub rest : Nodes
   pub at : ParserState
-
-abbrev pub read_token_of : ParserState → Reading → ParseResult ReadToken
-read_token_of at (NoMore tokens) = Refused (tokens + 1) cause.OpenDefinition
-read_token_of at (Refuses number c) = Refused number (source_cause c)
-read_token_of at (Reads token number rest) = Fine (record { sense = sense_in at.entries token; at = record at { rest = rest; count = number } })
-
--- the next token of a definition
-abbrev pub token_at : ParserState → ParseResult ReadToken
-token_at at = read_token_of at (next_from at.count at.rest)
-
--- a token that was read as a name, and where it ends
-pub record Named : Type 0 where
-  pub name : List ℕ
-  pub at : ParserState
-
-abbrev pub spelled_of : ParserState → Reading → ParseResult Named
-spelled_of at (NoMore tokens) = Refused (tokens + 1) cause.NeedsName
-spelled_of at (Refuses number c) = Refused number (source_cause c)
-spelled_of at (Reads token number rest) = Fine (record { name = token; at = record at { rest = rest; count = number } })
-
--- the next token, read as a name
-abbrev pub spelled_at : ParserState → ParseResult Named
-spelled_at at = spelled_of at (name_from at.count at.rest)
 
 -- what the nest says of a word
 abbrev pub nested : ParserState → Result (List Open) SourceCause → ParseResult ParserState
@@ -165,47 +146,80 @@ alone_as number weight node at = weighed_as number weight at >>= λ after. Fine 
 abbrev pub alone : ℕ → Node → ParserState → ParseResult One
 alone weight node at = alone_as at.count weight node at
 
--- the byte with which a name begins
-abbrev pub first_byte : List ℕ → ℕ
-first_byte [] = 0
-first_byte (byte ∷ bytes) = byte
-
 -- [CHAR] reads a name, and is its first byte
 abbrev pub char_at : ParserState → ParseResult One
 char_at at = spelled_at at >>= λ named. alone_as at.count (entry_of word.BracketChar).weight (Literal (first_byte named.name)) named.at
+
+-- the word of a text
+abbrev pub quoting_word : TextKind → Word
+quoting_word text.Address = word.SQuote
+quoting_word text.Print = word.DotQuote
+quoting_word text.Abort = word.AbortQuote
+
+-- a string word lays its text at HERE, which is then looked at
+abbrev pub text_at : TextKind → ParserState → ParseResult One
+text_at kind at = quotation_at at >>= λ quotation.
+    hosted_as quotation.at.count quotation.at (checked (string_laid quotation.text quotation.at.host)) (λ address. alone (entry_of (quoting_word kind)).weight (Text kind address (length quotation.text)))
+
+abbrev pub ticked_as : ℕ → Named → Result Ticked SourceCause → ParseResult One
+ticked_as number named (Err c) = Refused named.at.count c
+ticked_as number named (Ok one) = hosted_as number named.at (tick one named.at.host) (λ token. alone_as number (tick_weight one token.1) (Literal token.0))
+
+-- ['] reads a name, and is its execution token
+abbrev pub tick_at : ParserState → ParseResult One
+tick_at at = spelled_at at >>= λ named. ticked_as at.count named (ticked_in named.at.entries named.name)
+
+-- LITERAL takes a cell from the host stack
+abbrev pub literal_at : ParserState → ParseResult One
+literal_at at = hosted_as at.count at (pop at.host) (λ x. alone (entry_of word.Literal).weight (Literal x))
 
 -- the item that begins with a token of this sense, which ends at the place
 abbrev pub item_at : (ParserState → ParseResult Many) → ℕ → ParserState → Sense → ParseResult One
 item_at go m at (sense.Number value) = alone 2 (Literal value) at
 item_at go m at (sense.Plain w) = alone (entry_of w).weight (Plain w) at
 item_at go m at (sense.Calls definition) = alone 1 (Call definition) at
+item_at go m at (sense.Inherits part address) = alone 2 (Child part address) at
 item_at go m at sense.Recurses = alone (entry_of word.Recurse).weight (Call at.definitions) at
 item_at go m at (sense.Opens o) = opened_at o at >>= structure_at go m o
 item_at go m at (sense.Ends e) = unfit at
 item_at go m at sense.Leaves = elim (is_inside_do at.nest) [ true ↦ alone (entry_of word.Leave).weight Leave at | false ↦ unfit at ]
 item_at go m at sense.Exits = alone (entry_of word.Exit).weight Exit at
 item_at go m at sense.Spells = char_at at
+item_at go m at (sense.Quotes kind) = text_at kind at
+item_at go m at sense.Ticks = tick_at at
+item_at go m at sense.Takes = literal_at at
+item_at go m at sense.Brackets = unfit at
+item_at go m at sense.Creates = forbidden at
+item_at go m at sense.Forbidden = forbidden at
+item_at go m at sense.Unfit = unfit at
 item_at go m at sense.OutOfRange = Refused at.count cause.NumberRange
 item_at go m at sense.Unknown = Refused at.count cause.UnknownWord
-item_at go m at sense.NotYet = NotBuilt
 
 -- the item, and those behind it
 abbrev pub then_items : (ParserState → ParseResult Many) → ParseResult One → ParseResult Many
 then_items go first = first >>= λ one. go one.at >>= λ many. Fine (record many { nodes = Then one.node many.nodes })
 
+-- the items that begin with a token of this sense; brackets are no item
 abbrev pub items_by : (ParserState → ParseResult Many) → ℕ → ParserState → Sense → ParseResult Many
 items_by go m at (sense.Ends e) = ended_at e at >>= λ after. Fine (record { nodes = Empty; ending = e; at = after })
+items_by go m at sense.Brackets = bracket_at m at >>= go
 items_by go m at (sense.Number value) = then_items go (item_at go m at (sense.Number value))
 items_by go m at (sense.Plain w) = then_items go (item_at go m at (sense.Plain w))
 items_by go m at (sense.Calls definition) = then_items go (item_at go m at (sense.Calls definition))
+items_by go m at (sense.Inherits part address) = then_items go (item_at go m at (sense.Inherits part address))
 items_by go m at sense.Recurses = then_items go (item_at go m at sense.Recurses)
 items_by go m at (sense.Opens o) = then_items go (item_at go m at (sense.Opens o))
 items_by go m at sense.Leaves = then_items go (item_at go m at sense.Leaves)
 items_by go m at sense.Exits = then_items go (item_at go m at sense.Exits)
 items_by go m at sense.Spells = then_items go (item_at go m at sense.Spells)
+items_by go m at (sense.Quotes kind) = then_items go (item_at go m at (sense.Quotes kind))
+items_by go m at sense.Ticks = then_items go (item_at go m at sense.Ticks)
+items_by go m at sense.Takes = then_items go (item_at go m at sense.Takes)
+items_by go m at sense.Creates = then_items go (item_at go m at sense.Creates)
+items_by go m at sense.Forbidden = then_items go (item_at go m at sense.Forbidden)
+items_by go m at sense.Unfit = then_items go (item_at go m at sense.Unfit)
 items_by go m at sense.OutOfRange = then_items go (item_at go m at sense.OutOfRange)
 items_by go m at sense.Unknown = then_items go (item_at go m at sense.Unknown)
-items_by go m at sense.NotYet = then_items go (item_at go m at sense.NotYet)
 
 -- the items from a place on, where fewer than n tokens are read
 unfoldable pub items_at : ℕ → ParserState → ParseResult Many

@@ -1,6 +1,10 @@
 pub mod ParseResult
 pub mod Nest
+pub mod HostSense
 pub mod Sense
+pub mod Ticks
+pub mod ReadTokens
+pub mod Brackets
 pub mod Items
 pub mod SourceText
 pub mod Answers

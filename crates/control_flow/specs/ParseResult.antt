@@ -3,6 +3,10 @@ use Rattle.std.specs.Prelude.{ℕ, ◌+◌, nat_le, true, false, List}
 use Rattle.forth_reader.specs.declared.refusal.ReadCause.{ReadCause}
 use Rattle.forth_reader.specs.declared.refusal.ReadCause.TheVariants as read
 use Rattle.dictionary_core.specs.Pairs.{Pair}
+use Rattle.host_state.specs.declared.entry.Entry.{Entry}
+use Rattle.host_state.specs.declared.refusal.HostRefusal.{HostRefusal}
+use Rattle.host_state.specs.declared.refusal.HostRefusal.TheVariants as refusal
+use Rattle.host_state.specs.HostCells.{Host, Reply, Gives, Refuses}
 use Rattle.control_flow.specs.declared.nest.Open.{Open}
 use Rattle.control_flow.specs.declared.refusal.SourceCause.{SourceCause}
 use Rattle.control_flow.specs.declared.refusal.SourceCause.TheVariants as cause
@@ -16,9 +20,11 @@ pub record ParserState : Type 0 where
   pub weight : ℕ
   -- the open structures of the definition that is read, the innermost first
   pub nest : List Open
-  -- the names that are defined, oldest first, each with the number of its definition, and how many definitions there are
-  pub entries : List (Pair ℕ)
+  -- the names that are defined, oldest first, each with what it stands for, and how many definitions there are
+  pub entries : List (Pair Entry)
   pub definitions : ℕ
+  -- what host words act on
+  pub host : Host
 
 -- a value; the first refused token with its cause; or a token comes first that is not built yet.
 -- Endless stands for a text that is left when the fuel is spent; with more fuel than bytes it never comes.
@@ -42,6 +48,18 @@ source_cause read.NameTooLong = cause.NameTooLong
 source_cause read.OpenComment = cause.OpenComment
 source_cause read.OpenString = cause.OpenString
 
+abbrev pub host_cause : HostRefusal → SourceCause
+host_cause refusal.NeedsName = cause.NeedsName
+host_cause refusal.HostUnderflow = cause.HostUnderflow
+host_cause refusal.BadSplit = cause.BadSplit
+host_cause refusal.HostOverflow = cause.HostOverflow
+host_cause refusal.DataFull = cause.DataFull
+
+-- goes on with what a host word gives and the place with its state, or refuses the token with a number
+abbrev pub hosted_as : {A B : Type 0} → ℕ → ParserState → Reply A → (A → ParserState → ParseResult B) → ParseResult B
+hosted_as number at (Gives x s) next = next x (record at { host = s })
+hosted_as number at (Refuses c) next = Refused number (host_cause c)
+
 -- the place with the weight more of the token with a number; the sum of all weights is at most 2,400
 abbrev pub weighed_as : ℕ → ℕ → ParserState → ParseResult ParserState
 weighed_as number weight at = elim (nat_le (at.weight + weight) 2400) [
@@ -52,6 +70,10 @@ weighed_as number weight at = elim (nat_le (at.weight + weight) 2400) [
 -- the same for the last token
 abbrev pub weighed : ℕ → ParserState → ParseResult ParserState
 weighed weight at = weighed_as at.count weight at
+
+-- a word that cannot stand in a definition
+abbrev pub forbidden : {A : Type 0} → ParserState → ParseResult A
+forbidden at = Refused at.count cause.NotInDefinition
 
 -- a word does not fit
 abbrev pub unfit : {A : Type 0} → ParserState → ParseResult A

@@ -1,5 +1,5 @@
--- What a token stands for inside a definition: first a name that is defined, then a word of the table, then a number in base ten.
-use Rattle.std.specs.Prelude.{ℕ, List, Option, Some, None}
+-- What a token stands for inside a definition: first a name that is defined, then a word of the table, then a number in the present base.
+use Rattle.std.specs.Prelude.{ℕ, Bool, true, false, List, Option, Some, None}
 use Rattle.word_table.specs.declared.word.Word.{Word}
 use Rattle.word_table.specs.declared.word.Word.TheVariants as word
 use Rattle.word_table.specs.declared.word.Class.{Class}
@@ -9,13 +9,17 @@ use Rattle.word_table.specs.Names.{word_named}
 use Rattle.forth_reader.specs.declared.number.NumberRead.{NumberRead}
 use Rattle.forth_reader.specs.declared.number.NumberRead.TheVariants as number
 use Rattle.forth_reader.specs.Number.{number_read}
+use Rattle.forth_program.specs.declared.item.TextKind.TheVariants as text
 use Rattle.dictionary_core.specs.Pairs.{Pair, newest_value}
+use Rattle.host_state.specs.declared.entry.Entry.{Entry}
+use Rattle.host_state.specs.declared.entry.Known.{Known}
+use Rattle.host_state.specs.declared.entry.Known.TheVariants as known
 use Rattle.control_flow.specs.declared.nest.Opening.{Opening}
 use Rattle.control_flow.specs.declared.nest.Opening.TheVariants as opening
 use Rattle.control_flow.specs.declared.nest.Ending.{Ending}
 use Rattle.control_flow.specs.declared.nest.Ending.TheVariants as ending
 use Rattle.control_flow.specs.declared.sense.Sense.{Sense}
-use Rattle.control_flow.specs.declared.sense.Sense.TheVariants.{Number, Plain, Calls, Recurses, Opens, Ends, Leaves, Exits, Spells, OutOfRange, Unknown, NotYet}
+use Rattle.control_flow.specs.declared.sense.Sense.TheVariants.{Number, Plain, Calls, Inherits, Recurses, Opens, Ends, Leaves, Exits, Spells, Quotes, Ticks, Takes, Brackets, Creates, Forbidden, Unfit, OutOfRange, Unknown}
 
 abbrev pub opening_word : Opening → Word
 opening_word opening.If = word.If
@@ -43,7 +47,7 @@ number_sense (number.Value value) = Number value
 number_sense number.Range = OutOfRange
 number_sense number.NotNumber = Unknown
 
--- of the words of class structure the string words and those of the other brackets are not built
+-- `]` fits where a `[` is open, and comments are no tokens of a definition
 abbrev pub structure_sense : Word → Sense
 structure_sense word.ToR = Plain word.ToR
 structure_sense word.RFrom = Plain word.RFrom
@@ -72,30 +76,45 @@ structure_sense word.Leave = Leaves
 structure_sense word.Exit = Exits
 structure_sense word.Recurse = Recurses
 structure_sense word.BracketChar = Spells
-structure_sense w = NotYet
+structure_sense word.SQuote = Quotes text.Address
+structure_sense word.DotQuote = Quotes text.Print
+structure_sense word.AbortQuote = Quotes text.Abort
+structure_sense word.BracketTick = Ticks
+structure_sense word.Literal = Takes
+structure_sense word.LeftBracket = Brackets
+structure_sense w = Unfit
 
--- EXECUTE is not built
-abbrev pub library_sense : Word → Sense
-library_sense word.Execute = NotYet
-library_sense w = Plain w
+-- words that act while the source is read are not for definitions, but CREATE may be the first of one
+abbrev pub acting_sense : Word → Sense
+acting_sense word.Create = Creates
+acting_sense w = Forbidden
 
 -- a word by its class
 abbrev pub class_sense : Class → Word → Sense
 class_sense class.Inline word = Plain word
-class_sense class.Library word = library_sense word
+class_sense class.Library word = Plain word
 class_sense class.Structure word = structure_sense word
-class_sense class.Host word = NotYet
+class_sense class.Host word = acting_sense word
 
 abbrev pub word_sense : Word → Sense
 word_sense word = class_sense (entry_of word).class word
 
-abbrev pub sense_by : List ℕ → Option Word → Sense
-sense_by token (Some word) = word_sense word
-sense_by token None = number_sense (number_read 10 token)
+-- constants and created addresses are numbers, and a defining word is used outside definitions
+abbrev pub known_sense : Known → Sense
+known_sense (known.Definition definition) = Calls definition
+known_sense (known.Constant x) = Number x
+known_sense (known.Address address) = Number address
+known_sense (known.Child part address) = Inherits part address
+known_sense (known.Defining number) = Forbidden
 
-abbrev pub sense_of : List ℕ → Sense
-sense_of token = sense_by token (word_named token)
+abbrev pub sense_by : ℕ → List ℕ → Option Word → Sense
+sense_by base token (Some word) = word_sense word
+sense_by base token None = number_sense (number_read base token)
 
 -- a name that is defined hides a word
-abbrev pub sense_in : List (Pair ℕ) → List ℕ → Sense
-sense_in entries token = elim (newest_value entries token) [ Some definition ↦ Calls definition | None ↦ sense_of token ]
+abbrev pub sense_in : List (Pair Entry) → ℕ → List ℕ → Sense
+sense_in entries base token = elim (newest_value entries token) [ Some entry ↦ known_sense entry.known | None ↦ sense_by base token (word_named token) ]
+
+abbrev pub is_create : Sense → Bool
+is_create Creates = true
+is_create sense = false

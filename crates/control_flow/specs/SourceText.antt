@@ -1,5 +1,5 @@
 -- The program of a source text, definition by definition.
-use Rattle.std.specs.Prelude.{ℕ, zero, suc, ◌+◌, nat_lt, List, [], ◌∷◌, ◌++◌, length, replicate, Bool, true, false, Option, Some, None, codes}
+use Rattle.std.specs.Prelude.{ℕ, zero, suc, ◌+◌, nat_lt, List, [], ◌∷◌, ◌++◌, length, Bool, true, false, Option, Some, None, codes}
 use Rattle.word_table.specs.declared.word.Word.{Word}
 use Rattle.word_table.specs.declared.word.Word.TheVariants.{Colon, Semicolon, Paren, Backslash, DotQuote, SQuote, AbortQuote}
 use Rattle.word_table.specs.Names.{word_named}
@@ -7,11 +7,20 @@ use Rattle.forth_program.specs.Tree.{Nodes}
 use Rattle.forth_program.specs.Program.{SourceProgram}
 use Rattle.forth_reader.specs.Reading.{Reading, NoMore, Reads, Refuses, next_from}
 use Rattle.dictionary_core.specs.Pairs.{pair, newest_value}
+use Rattle.host_state.specs.declared.entry.Entry.{Entry}
+use Rattle.host_state.specs.declared.entry.Known.{Known}
+use Rattle.host_state.specs.declared.entry.Known.TheVariants as known
+use Rattle.host_state.specs.HostCells.{Host}
+use Rattle.host_state.specs.HostMemory.{first_space}
+use Rattle.host_state.specs.FirstImage.{image_of}
 use Rattle.control_flow.specs.declared.refusal.SourceCause.TheVariants as cause
 use Rattle.control_flow.specs.declared.nest.Ending.{Ending}
 use Rattle.control_flow.specs.declared.nest.Ending.TheVariants as ending
 use Rattle.control_flow.specs.ParseResult.{ParserState, ParseResult, Fine, Refused, NotBuilt, Endless, ◌>>=◌, source_cause, unfit}
-use Rattle.control_flow.specs.Items.{Named, spelled_at, items_at}
+use Rattle.control_flow.specs.Sense.{is_create}
+use Rattle.control_flow.specs.Ticks.{token_nodes}
+use Rattle.control_flow.specs.ReadTokens.{ReadToken, token_at, Named, spelled_at}
+use Rattle.control_flow.specs.Items.{items_by, items_at}
 
 -- the words whose names cannot be defined
 abbrev pub is_reserved : Word → Bool
@@ -47,7 +56,10 @@ pub record Source : Type 0 where
 
 -- the name is found from here on
 abbrev pub with_entry : List ℕ → ParserState → ParserState
-with_entry name at = record at { entries = at.entries ++ pair name at.definitions ∷ []; definitions = at.definitions + 1 }
+with_entry name at = record at {
+  entries = at.entries ++ pair name (record { number = length at.entries; known = known.Definition at.definitions }) ∷ [];
+  definitions = at.definitions + 1;
+}
 
 abbrev pub with_definition : Source → List ℕ → Nodes → ParserState → Source
 with_definition source name nodes at = record { at = with_entry name at; names = source.names ++ name ∷ []; bodies = source.bodies ++ nodes ∷ [] }
@@ -57,8 +69,15 @@ abbrev pub defined_by : Source → List ℕ → Nodes → ParserState → Ending
 defined_by source name nodes at ending.Semicolon = Fine (with_definition source name nodes at)
 defined_by source name nodes at e = unfit at
 
+-- a definition, by its first token: one that begins with CREATE is not built
+abbrev pub definition_by : ℕ → Source → List ℕ → ReadToken → ParseResult Source
+definition_by n source name seen = elim (is_create seen.sense) [
+  | true ↦ NotBuilt
+  | false ↦ items_by (items_at n) n seen.at seen.sense >>= λ many. defined_by source name many.nodes many.at many.ending
+]
+
 abbrev pub definition_named : ℕ → Source → Named → ParseResult Source
-definition_named n source named = items_at n named.at >>= λ many. defined_by source named.name many.nodes many.at many.ending
+definition_named n source named = token_at named.at >>= definition_by n source named.name
 
 -- a definition behind its `:`, where the source is read on at a place
 abbrev pub definition_at : ℕ → Source → ParserState → ParseResult Source
@@ -89,26 +108,31 @@ outside_of at (Reads token number rest) = elim (is_colon_name (word_named token)
 abbrev pub outside_at : ParserState → ParseResult OutsideToken
 outside_at at = outside_of at (next_from at.count at.rest)
 
--- the cells BASE, hold pointer and HERE at 8192, 8194 and 8196, and zeros up to the first free byte 8320
-abbrev pub fixed_space : List ℕ
-fixed_space = 10 ∷ 0 ∷ 0x60 ∷ 0x20 ∷ 0x80 ∷ 0x20 ∷ replicate 122 0
-
--- the program of these definitions, whose source has so many tokens
-abbrev pub program_with : List (List ℕ) → List Nodes → ℕ → ℕ → SourceProgram
-program_with names bodies main tokens = record {
+-- the program of these definitions, whose source has so many tokens and leaves this for host words
+abbrev pub program_with : List (List ℕ) → List Nodes → ℕ → ℕ → Host → SourceProgram
+program_with names bodies main tokens host = record {
   names = names;
   bodies = bodies;
   main_body = main;
-  tokens = [];
-  data_start = 8192;
-  first_space = fixed_space;
+  tokens = token_nodes host.tokens;
+  data_start = host.space.data_start;
+  first_space = image_of host.space;
   source_tokens = tokens;
 }
 
--- at the end of the text there has to be a MAIN
+-- the definition that a name stands for
+abbrev pub known_definition : Known → Option ℕ
+known_definition (known.Definition definition) = Some definition
+known_definition k = None
+
+abbrev pub main_of : Option Entry → Option ℕ
+main_of None = None
+main_of (Some entry) = known_definition entry.known
+
+-- at the end of the text the newest MAIN has to be a definition
 abbrev pub program_of_source : Source → ParserState → ParseResult SourceProgram
-program_of_source source at = elim (newest_value at.entries (codes "MAIN")) [
-  | Some main ↦ Fine (program_with source.names source.bodies main at.count)
+program_of_source source at = elim (main_of (newest_value at.entries (codes "MAIN"))) [
+  | Some main ↦ Fine (program_with source.names source.bodies main at.count at.host)
   | None ↦ Refused (at.count + 1) cause.NoMain
 ]
 
@@ -124,9 +148,13 @@ unfoldable pub source_at : ℕ → Source → ParseResult SourceProgram
 source_at zero source = Endless
 source_at (suc n) source = outside_at source.at >>= source_by (source_at n) n source
 
+-- what host words act on at the start of a text
+abbrev pub first_host : Host
+first_host = record { stack = []; space = first_space 8192; tokens = [] }
+
 -- a text at its start
 abbrev pub beginning : List ℕ → ParserState
-beginning text = record { rest = text; count = 0; weight = 0; nest = []; entries = []; definitions = 0 }
+beginning text = record { rest = text; count = 0; weight = 0; nest = []; entries = []; definitions = 0; host = first_host }
 
 abbrev pub source_start : List ℕ → Source
 source_start text = record { at = beginning text; names = []; bodies = [] }

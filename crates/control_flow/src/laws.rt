@@ -1,18 +1,24 @@
 // What holds of all source texts.
 ghost use Rattle.control_flow.specs.SourceLaw.{EachIsJudged, EachProgramIsSource, TestsWiden};
 
+use host_state::host_words_keep;
+
 /// Each text has a program or a first refusal, or has a token first that is not built yet: the definition never gives up.
-#[tactic(auto, using(crate::proofs::SourceFacts::judged))]
 pub fn texts_are_judged()
     ensures { EachIsJudged }
-{}
+{
+    host_words_keep();
+}
 
 /// The program of a text meets the condition of a program; its numbers are cells, its words are inline, of the library or on
-/// return entries, its calls lead to the definition in which they stand or to earlier ones; its weights are within the limit, its
-/// source has a token for each of its parts, and its first data space is bytes.
+/// return entries, its calls lead to the definition in which they stand or to earlier ones, and its texts lie in data space; so do its
+/// execution tokens; the weights of both are within the limit, its source has a token for each of its parts, and its first data space
+/// is bytes.
 pub fn programs_are_sources()
     ensures { EachProgramIsSource }
-{}
+{
+    host_words_keep();
+}
 
 /// Where a test holds of every item, also in structures, each wider test does.
 pub fn tests_widen()

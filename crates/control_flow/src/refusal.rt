@@ -1,8 +1,9 @@
 // Why a source is refused, and where.
 ghost use Rattle.std.specs.Prelude.{◌≡◌};
-ghost use Rattle.control_flow.specs.ParseResult.{source_cause};
+ghost use Rattle.control_flow.specs.ParseResult.{source_cause, host_cause};
 
 use forth_reader::ReadCause;
+use host_state::HostRefusal;
 
 /// Why a source is refused. Where two causes hold at one token, the one named first stands.
 #[derive(Clone, Copy, Debug, PartialEq, Eq)]
@@ -16,7 +17,8 @@ pub enum SourceCause {
     OpenComment,
     /// The line or the text ends before the closing quote of a string.
     OpenString,
-    /// A name is due, and the text has ended or the name cannot be defined.
+    /// A name is due, and the text has ended, the name cannot be defined, or the name that is ticked has no execution token; or
+    /// `>BODY` finds no token of a created address or of a child.
     NeedsName,
     /// The token is no word and has not the form of a number.
     UnknownWord,
@@ -32,6 +34,8 @@ pub enum SourceCause {
     TooDeep,
     /// A word finds too few cells on the host stack.
     HostUnderflow,
+    /// `CODE-CELLS` stands at another place than behind a first number, or with a number outside 2048 to 8000.
+    BadSplit,
     /// The token would put a 33rd cell on the host stack.
     HostOverflow,
     /// The token names the 513th entry.
@@ -61,7 +65,8 @@ pub enum SourceError {
     Refused(SourceRefusal),
     /// There was no memory for the program.
     OutOfMemory,
-    /// A token comes first that this version does not build yet. The variant goes away when the whole language is built.
+    /// A token comes first that this version does not build yet: one outside definitions that is no `:`, or the `CREATE` with which a
+    /// definition begins. The variant goes away when the whole language is built.
     NotYet,
 }
 
@@ -81,5 +86,18 @@ pub(crate) fn source_cause(cause: ReadCause) -> SourceCause
         ReadCause::NameTooLong => SourceCause::NameTooLong,
         ReadCause::OpenComment => SourceCause::OpenComment,
         ReadCause::OpenString => SourceCause::OpenString,
+    }
+}
+
+/// The cause of a token whose host word is refused.
+pub(crate) fn host_cause(cause: HostRefusal) -> SourceCause
+    ensures { result ≡ host_cause cause }
+{
+    match cause {
+        HostRefusal::NeedsName => SourceCause::NeedsName,
+        HostRefusal::HostUnderflow => SourceCause::HostUnderflow,
+        HostRefusal::BadSplit => SourceCause::BadSplit,
+        HostRefusal::HostOverflow => SourceCause::HostOverflow,
+        HostRefusal::DataFull => SourceCause::DataFull,
     }
 }

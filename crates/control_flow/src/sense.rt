@@ -1,22 +1,26 @@
 // What tokens stand for.
 ghost use Rattle.std.specs.Prelude.{◌≡◌};
 ghost use Rattle.word_table.specs.Names.{word_named};
-ghost use Rattle.control_flow.specs.Sense.{sense_of, word_sense, library_sense, structure_sense, number_sense};
+ghost use Rattle.control_flow.specs.Sense.{sense_by, word_sense, acting_sense, structure_sense, number_sense, known_sense, is_create};
 ghost use Rattle.control_flow.specs.SourceText.{is_reserved, is_reserved_name, is_colon, is_colon_name};
 
 use crate::nest::{Ending, Opening};
+use forth_program::TextKind;
 use forth_reader::{NumberRead, number_of};
+use host_state::Known;
 use word_table::{Class, Word, entry, word_of};
 
 /// What a token stands for inside a definition.
 #[derive(Clone, Copy)]
 pub(crate) enum Sense {
-    /// A number, as a cell.
+    /// A number, a constant or a created address, as a cell.
     Number(u16),
     /// An inline word, a library word, or a word on return entries.
     Plain(Word),
     /// A definition, by its number.
     Calls(u16),
+    /// A child of a defining word: the definition behind `DOES>`, and the data address.
+    Inherits(u16, u16),
     /// `RECURSE`.
     Recurses,
     /// A word that opens a structure.
@@ -29,12 +33,24 @@ pub(crate) enum Sense {
     Exits,
     /// `[CHAR]`.
     Spells,
+    /// A string word.
+    Quotes(TextKind),
+    /// `[']`.
+    Ticks,
+    /// `LITERAL`.
+    Takes,
+    /// `[`.
+    Brackets,
+    /// `CREATE`.
+    Creates,
+    /// A word that cannot stand in a definition.
+    Forbidden,
+    /// `]` where no `[` is open.
+    Unfit,
     /// A number that is out of range.
     OutOfRange,
     /// No word and no number.
     Unknown,
-    /// A word that is not built yet.
-    NotYet,
 }
 
 fn structure_sense(word: Word) -> Sense
@@ -68,16 +84,22 @@ fn structure_sense(word: Word) -> Sense
         Word::Exit => Sense::Exits,
         Word::Recurse => Sense::Recurses,
         Word::BracketChar => Sense::Spells,
-        _ => Sense::NotYet,
+        Word::SQuote => Sense::Quotes(TextKind::Address),
+        Word::DotQuote => Sense::Quotes(TextKind::Print),
+        Word::AbortQuote => Sense::Quotes(TextKind::Abort),
+        Word::BracketTick => Sense::Ticks,
+        Word::Literal => Sense::Takes,
+        Word::LeftBracket => Sense::Brackets,
+        _ => Sense::Unfit,
     }
 }
 
-fn library_sense(word: Word) -> Sense
-    ensures { result ≡ library_sense word }
+fn acting_sense(word: Word) -> Sense
+    ensures { result ≡ acting_sense word }
 {
     match word {
-        Word::Execute => Sense::NotYet,
-        _ => Sense::Plain(word),
+        Word::Create => Sense::Creates,
+        _ => Sense::Forbidden,
     }
 }
 
@@ -86,9 +108,9 @@ fn word_sense(word: Word) -> Sense
 {
     match entry(word).class {
         Class::Inline => Sense::Plain(word),
-        Class::Library => library_sense(word),
+        Class::Library => Sense::Plain(word),
         Class::Structure => structure_sense(word),
-        Class::Host => Sense::NotYet,
+        Class::Host => acting_sense(word),
     }
 }
 
@@ -102,13 +124,36 @@ fn number_sense(number: NumberRead) -> Sense
     }
 }
 
-/// What a token stands for that is no name of a definition: first a word of the table, then a number in base ten.
-pub(crate) fn sense_of(token: &str) -> Sense
-    ensures { result ≡ sense_of token.now }
+/// What a name that is defined stands for.
+pub(crate) fn known_sense(known: Known) -> Sense
+    ensures { result ≡ known_sense known }
+{
+    match known {
+        Known::Definition(definition) => Sense::Calls(definition),
+        Known::Constant(cell) => Sense::Number(cell),
+        Known::Address(address) => Sense::Number(address),
+        Known::Child(part, address) => Sense::Inherits(part, address),
+        Known::Defining(_) => Sense::Forbidden,
+    }
+}
+
+/// Whether it is CREATE.
+pub(crate) fn is_create(sense: Sense) -> bool
+    ensures { result ≡ is_create sense }
+{
+    match sense {
+        Sense::Creates => true,
+        _ => false,
+    }
+}
+
+/// What a token stands for that is no name of a definition: first a word of the table, then a number in this base.
+pub(crate) fn sense_of(token: &str, base: u16) -> Sense
+    ensures { result ≡ sense_by base token.now (word_named token.now) }
 {
     match word_of(token) {
         Some(word) => word_sense(word),
-        None => number_sense(number_of(token, 10)),
+        None => number_sense(number_of(token, base)),
     }
 }
 

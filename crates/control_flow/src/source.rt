@@ -1,18 +1,21 @@
 // Reading a whole source.
-ghost use Rattle.std.specs.Prelude.{◌≡◌, ◌∷◌, [], ℕ, ◌+◌, ◌<◌, ◌≤◌, length, true, IfOk, IfErr, OnOk};
+ghost use Rattle.std.specs.Prelude.{◌≡◌, ℕ, ◌+◌, ◌<◌, ◌≤◌, length, IfOk, IfErr, OnOk};
 ghost use Rattle.forth_program.specs.Form.{IsProgram};
 ghost use Rattle.forth_program.specs.ItemTrees.{tree_of};
 ghost use Rattle.forth_reader.specs.Name.{IsName};
 ghost use Rattle.control_flow.specs.ParseResult.{Each};
-ghost use Rattle.control_flow.specs.SourceText.{fixed_space, source_start, with_definition, definition_at, program_of_source, program_of_text};
+ghost use Rattle.control_flow.specs.SourceText.{main_of, source_start, with_definition, definition_at, program_of_source, program_of_text};
 ghost use Rattle.control_flow.specs.Answers.{parser_state, source_of, IsReadyParser, IsCounted, AnswersAs};
 
 use crate::nest::{Ending, Nest};
 use crate::parser::Parser;
 use crate::refusal::{SourceCause, SourceError, refused};
+use crate::sense::is_create;
+use crate::ticks::program_tokens;
 use dictionary_core::Dictionary;
 use forth_program::{DefId, Items, Name, Program, ProgramParts};
 use forth_reader::Reader;
+use host_state::{Entry, HostState, Known, host_words_keep};
 use std::alloc::{AllocError, Global};
 
 /// What is read of a source so far.
@@ -25,13 +28,17 @@ pub(crate) struct ReadSource<'a> {
     pub(crate) bodies: Vec<Items>,
 }
 
-/// The fixed cells, and zeros up to the first free byte.
-fn fixed_space(alloc: Global) -> Result<Vec<u8>, AllocError>
-    ensures { IfOk result (λ space. space.items ≡ fixed_space) }
+/// The definition that a name stands for.
+fn main_of(entry: Option<Entry>) -> Option<u16>
+    ensures { result ≡ main_of entry }
 {
-    let mut space = Vec::from_slice(alloc, &[10, 0, 0x60, 0x20, 0x80, 0x20])?;
-    space.resize(128, 0)?;
-    Ok(space)
+    match entry {
+        None => None,
+        Some(entry) => match entry.known {
+            Known::Definition(main) => Some(main),
+            _ => None,
+        },
+    }
 }
 
 impl<'a> ReadSource<'a> {
@@ -43,6 +50,7 @@ impl<'a> ReadSource<'a> {
         ensures counted { IfOk result (λ source. IsCounted source) }
     {
         let dictionary = Dictionary::new(alloc)?;
+        let host = HostState::new(alloc, 8192)?;
         Ok(ReadSource {
             parser: Parser {
                 reader: Reader::new(bytes),
@@ -50,6 +58,7 @@ impl<'a> ReadSource<'a> {
                 nest: Nest::new(),
                 dictionary,
                 definitions: 0,
+                host,
             },
             names: Vec::new(alloc),
             bodies: Vec::new(alloc),
@@ -68,8 +77,9 @@ impl<'a> ReadSource<'a> {
         ensures counted { OnOk result (IsCounted self.new) }
         ensures longer { OnOk result (length self.new.bodies.items ≡ length self.old.bodies.items + 1) }
     {
-        let definition = self.parser.definitions;
-        match self.parser.dictionary.add(name, definition) {
+        let known = Known::Definition(self.parser.definitions);
+        let number = self.parser.dictionary.len() as u16;
+        match self.parser.dictionary.add(name, Entry { number, known }) {
             Ok(_) => {}
             Err(_) => return Err(SourceError::OutOfMemory),
         }
@@ -99,8 +109,13 @@ impl<'a> ReadSource<'a> {
         ensures counted { OnOk result (IsCounted self.new) }
         ensures longer { OnOk result (length self.new.bodies.items ≡ length self.old.bodies.items + 1) }
     {
+        host_words_keep();
         let name = self.parser.name()?;
-        let body = self.parser.items(alloc)?;
+        let first = self.parser.token()?;
+        if is_create(first) {
+            return Err(SourceError::NotYet);
+        }
+        let body = self.parser.items_from(alloc, first)?;
         match body.ending {
             Ending::Semicolon => self.define(name, body.items),
             _ => refused(self.parser.reader.count(), SourceCause::BadNest),
@@ -119,10 +134,14 @@ impl<'a> ReadSource<'a> {
             bodies,
         } = self;
         let tokens = parser.reader.count();
-        let Some(main) = parser.dictionary.look_up("MAIN") else {
+        let Some(main) = main_of(parser.dictionary.look_up("MAIN")) else {
             return refused(tokens + 1, SourceCause::NoMain);
         };
-        let space = match fixed_space(alloc) {
+        let ticked = match program_tokens(alloc, parser.host.tokens()) {
+            Ok(ticked) => ticked,
+            Err(AllocError) => return Err(SourceError::OutOfMemory),
+        };
+        let space = match parser.host.image(alloc) {
             Ok(space) => space,
             Err(AllocError) => return Err(SourceError::OutOfMemory),
         };
@@ -132,8 +151,8 @@ impl<'a> ReadSource<'a> {
                 names,
                 bodies,
                 main: DefId(main),
-                tokens: Vec::new(alloc),
-                data_start: 8192,
+                tokens: ticked,
+                data_start: parser.host.data_start(),
                 space,
                 source_tokens: tokens,
             },
@@ -152,6 +171,7 @@ pub fn read_program(alloc: Global, bytes: &[u8]) -> Result<Program, SourceError>
     requires { length bytes.now < 4294967295 }
     ensures { AnswersAs (λ program. program) result (program_of_text bytes.now) }
 {
+    host_words_keep();
     let mut source = match ReadSource::new(alloc, bytes) {
         Ok(source) => source,
         Err(AllocError) => return Err(SourceError::OutOfMemory),

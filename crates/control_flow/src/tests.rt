@@ -87,7 +87,7 @@ fn outcome(alloc: Global, text: &[u8]) -> Result<(u16, u32), SourceError> {
 
 #[test]
 fn judges_texts(rt: HostRuntime) {
-    let rows: [(&[u8], Result<(u16, u32), SourceError>); 54] = [
+    let rows: [(&[u8], Result<(u16, u32), SourceError>); 55] = [
         // one definition, and none
         (b"", refused(1, SourceCause::NoMain)),
         (b"( abc", refused(1, SourceCause::OpenComment)),
@@ -153,8 +153,9 @@ fn judges_texts(rt: HostRuntime) {
             Ok((1, 12)),
         ),
         // what is not built
-        (b": MAIN 1 EXECUTE ;", Err(SourceError::NotYet)),
-        (b": MAIN : ;", Err(SourceError::NotYet)),
+        (b": MAIN 1 EXECUTE ;", Ok((1, 5))),
+        (b": MAIN : ;", refused(3, SourceCause::NotInDefinition)),
+        (b": MAIN CREATE ;", Err(SourceError::NotYet)),
         (b": MAIN ; 5 CONSTANT X", Err(SourceError::NotYet)),
         (b"XYZZY", Err(SourceError::NotYet)),
         (b"XYZZY\x80", refused(1, SourceCause::NotText)),

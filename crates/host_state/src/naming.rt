@@ -1,6 +1,5 @@
 // What words do that read a name.
 ghost use Rattle.std.specs.Prelude.{◌≡◌};
-ghost use Rattle.host_state.specs.HostCells.{pop};
 ghost use Rattle.host_state.specs.Naming.{created, variable, item_done, host_part, defined_by, bytes_laid, string_laid};
 ghost use Rattle.host_state.specs.Answers.{Answers};
 
@@ -9,14 +8,6 @@ use crate::state::HostState;
 use crate::word::HostItem;
 
 impl HostState {
-    /// CONSTANT takes its cell.
-    pub fn constant(&mut self) -> Result<u16, HostError>
-        ensures value { Answers (λ x. x) self.new result (pop self.old) }
-        ensures space { self.new.space ≡ self.old.space }
-    {
-        self.pop()
-    }
-
     /// CREATE: the address of the name is HERE, aligned.
     pub(crate) fn create(&mut self) -> Result<u16, HostError>
         ensures { Answers (λ x. x) self.new result (created self.old) }

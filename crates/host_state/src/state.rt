@@ -81,7 +81,7 @@ impl HostState {
     }
 
     /// Takes the top of the stack.
-    pub(crate) fn pop(&mut self) -> Result<u16, HostError>
+    pub fn pop(&mut self) -> Result<u16, HostError>
         ensures value { Answers (λ x. x) self.new result (pop self.old) }
         ensures space { self.new.space ≡ self.old.space }
     {

@@ -1,16 +1,19 @@
 -- Each program of a text can be laid out.
-use Rattle.std.proofs.Common.{◌≡◌, ℕ, ◌/◌, IsTrue, Bool, true, false, length, refl, ap, arith}
+use Rattle.std.proofs.Common.{◌≡◌, ℕ, ◌+◌, ◌≤◌, ◌/◌, IsTrue, Bool, true, false, ◌&&◌, List, [], ◌∷◌, length, refl, ap, arith}
 use Rattle.std.specs.List.{list_all}
+use Rattle.std.proofs.lemmas.Bool.{and_from, and_parts}
 use Rattle.word_table.specs.declared.word.Word.{Word}
 use Rattle.word_table.specs.declared.word.Word.TheVariants.{Dup}
+use Rattle.forth_program.specs.declared.item.TextKind.TheVariants as text
 use Rattle.forth_program.specs.Tree.{Node, Literal, Plain, Call, Child, Text}
 use Rattle.forth_program.specs.Program.{SourceProgram}
-use Rattle.control_flow.specs.SourceLaw.{is_plain, is_read, TestsWiden, IsSource, EachProgramIsSource}
-use Rattle.forth_program.specs.Form.{everywhere}
+use Rattle.forth_program.specs.Form.{everywhere, may_be_token}
+use Rattle.control_flow.specs.Ticks.{tokens_weight}
+use Rattle.control_flow.specs.SourceLaw.{is_plain, is_read, is_read_token, TestsWiden, IsSource, EachProgramIsSource}
 use Rattle.library_laws.specs.Bodies.{whole_library}
 use Rattle.code_layout.specs.Layout.{routine_of, bodies_size}
 use Rattle.code_layout.specs.Places.{tokens_size}
-use Rattle.code_layout.specs.Weights.{CodeIsLight}
+use Rattle.code_layout.specs.Weights.{CodeIsLight, TokensAreLight}
 use Rattle.code_layout.specs.Built.{word_is_laid_out, is_laid_out, token_is_laid_out, IsBuilt}
 use Rattle.j1_workbench.specs.Headline.{TextsAreBuilt}
 
@@ -35,28 +38,53 @@ read_laid : (count : ℕ) (node : Node) → is_read count node ≡ true → is_l
 read_laid count (Literal value) e = e
 read_laid count (Plain word) e = plain_laid word e
 read_laid count (Call definition) e = e
-read_laid count (Child definition address) e = absurd cc
-read_laid count (Text kind address size) e = absurd cc
+read_laid count (Child definition address) e = e
+read_laid count (Text text.Address address size) e = e
+read_laid count (Text text.Print address size) e = e
+read_laid count (Text text.Abort address size) e = e
 read_laid count node e = refl
+
+token_test : (word : Word) → IsTrue (implied (may_be_token (Plain word)) (word_is_laid_out false 42 (routine_of word) word))
+token_test Dup = refl
+token_test word = refl
+
+token_laid : (count : ℕ) (node : Node) → is_read_token count node ≡ true → token_is_laid_out 42 count node ≡ true
+token_laid count (Literal value) e = e
+token_laid count (Plain word) e = and_from _ _ e (follows (may_be_token (Plain word)) (word_is_laid_out false 42 (routine_of word) word) (token_test word) e)
+token_laid count (Call definition) e = e
+token_laid count (Child definition address) e = e
+token_laid count node e = absurd cc
+
+tokens_laid : (count : ℕ) (nodes : List Node) → list_all (is_read_token count) nodes ≡ true → list_all (token_is_laid_out 42 count) nodes ≡ true
+tokens_laid count [] e = refl
+tokens_laid count (node ∷ nodes) e =
+    let both = and_parts (is_read_token count node) (list_all (is_read_token count) nodes) e in
+    and_from _ _ (token_laid count node both.0) (tokens_laid count nodes both.1)
+
+-- tokens weigh as much as their code with their jumps, or more
+tokens_light : TokensAreLight → (count : ℕ) (nodes : List Node) → list_all (token_is_laid_out 42 count) nodes ≡ true → length nodes + tokens_size nodes ≤ tokens_weight nodes
+tokens_light light count [] e = omega arith
+tokens_light light count (node ∷ nodes) e =
+    let both = and_parts (token_is_laid_out 42 count node) (list_all (token_is_laid_out 42 count) nodes) e in
+    omega (arith, light 42 count node both.0, tokens_light light count nodes both.1)
 
 -- ---- programs
 
 -- the weights of a source leave room for its code
-source_built : TestsWiden → CodeIsLight → bodies_size whole_library ≡ 814 → (p : SourceProgram) → IsSource p → IsBuilt whole_library p
-source_built widen light size p s =
+source_built : TestsWiden → CodeIsLight → TokensAreLight → bodies_size whole_library ≡ 814 → (p : SourceProgram) → IsSource p → IsBuilt whole_library p
+source_built widen light tokens size p s =
     let laid : list_all (everywhere (is_laid_out true 42 (length p.bodies))) p.bodies ≡ true = widen (is_read (length p.bodies)) (is_laid_out true 42 (length p.bodies)) (read_laid (length p.bodies)) p.bodies s.items in
     let half : p.data_start / 2 ≡ 4096 = ap (λ n. n / 2) s.version_1 in
-    let no_jump : length p.tokens ≡ 0 = ap length s.no_tokens in
-    let no_code : tokens_size p.tokens ≡ 0 = ap tokens_size s.no_tokens in
+    let token_items = tokens_laid (length p.bodies) p.tokens s.token_items in
     record {
       has_main = s.form.main_in_range;
       items = laid;
-      token_items = ap (list_all (token_is_laid_out 42 (length p.bodies))) s.no_tokens;
+      token_items = token_items;
       leaves_in_loops = s.form.leaves_in_loops;
       data_start = s.form.data_start;
-      code_fits = omega (arith, light whole_library p laid, size, s.light, half, no_jump, no_code);
+      code_fits = omega (arith, light whole_library p laid, size, s.light, half, tokens_light tokens (length p.bodies) p.tokens token_items);
       tokens_counted = s.counted;
     }
 
-pub texts_built : EachProgramIsSource → TestsWiden → CodeIsLight → bodies_size whole_library ≡ 814 → TextsAreBuilt
-texts_built sources widen light size text program is = source_built widen light size program (sources text program is)
+pub texts_built : EachProgramIsSource → TestsWiden → CodeIsLight → TokensAreLight → bodies_size whole_library ≡ 814 → TextsAreBuilt
+texts_built sources widen light tokens size text program is = source_built widen light tokens size program (sources text program is)

@@ -1,14 +1,17 @@
 -- Each source has its one answer, where nothing outside fails.
-use Rattle.std.proofs.Common.{◌≡◌, ◌⊎◌, inl, inr, ℕ, zero, suc, ◌<◌, ◌≤◌, List, [], length, true, false, nat_le, refl, sym, ap, ◌∙◌, subst, arith}
+use Rattle.std.proofs.Common.{◌≡◌, ◌⊎◌, inl, inr, ℕ, zero, suc, ◌<◌, ◌≤◌, List, [], ◌∷◌, length, true, false, nat_le, refl, sym, ap, ◌∙◌, subst, arith}
 use Rattle.std.proofs.lemmas.Bool.Decides.{nat_tests}
 use Rattle.std.specs.Prelude.{Option, Some, None, Result, Ok, Err, slice_index_or}
-use Rattle.std.specs.List.{All}
+use Rattle.std.specs.List.{All, list_all}
+use Rattle.std.proofs.lemmas.Bool.{and_parts}
+use Rattle.std.proofs.lemmas.List.Elements.{All-nil, All-cons}
 use Rattle.outside_io.specs.Causes.{Rose}
 use Rattle.outside_io.specs.Files.{Files, Lacks}
+use Rattle.forth_program.specs.Tree.{Node, Literal, Plain, Call, Child}
 use Rattle.forth_program.specs.Program.{SourceProgram}
 use Rattle.control_flow.specs.ParseResult.{ParseResult, Fine, Refused, NotBuilt, Endless}
 use Rattle.control_flow.specs.SourceText.{program_of_text}
-use Rattle.control_flow.specs.SourceLaw.{EachIsJudged, EachProgramIsSource}
+use Rattle.control_flow.specs.SourceLaw.{is_read_token, EachIsJudged, EachProgramIsSource}
 use Rattle.control_flow.specs.declared.refusal.SourceCause.{SourceCause}
 use Rattle.control_flow.specs.declared.refusal.SourceRefusal.{SourceRefusal}
 use Rattle.forth_program.specs.declared.item.DefId.{DefId}
@@ -220,11 +223,21 @@ judged_program end least none text p short is proper =
       )
     ]
 
-no_tokens : (p : SourceProgram) → p.tokens ≡ [] → All ProperToken p.tokens
-no_tokens p none = subst (All ProperToken) (sym none) (λ k token below. absurd (omega (arith, below)))
+proper_token : (count : ℕ) (node : Node) → is_read_token count node ≡ true → ProperToken node
+proper_token count (Literal value) e = tt
+proper_token count (Plain word) e = e
+proper_token count (Call definition) e = tt
+proper_token count (Child definition address) e = tt
+proper_token count node e = absurd cc
+
+proper_tokens : (count : ℕ) (nodes : List Node) → list_all (is_read_token count) nodes ≡ true → All ProperToken nodes
+proper_tokens count [] e = All-nil ProperToken
+proper_tokens count (node ∷ nodes) e =
+    let both = and_parts (is_read_token count node) (list_all (is_read_token count) nodes) e in
+    All-cons ProperToken node nodes (proper_token count node both.0) (proper_tokens count nodes both.1)
 
 judged_outcome : EachIsJudged → EachProgramIsSource → RoundsEnd → RoundsFindTheLeast → RefusedHaveNone → (text : List ℕ) (outcome : ParseResult SourceProgram) → program_of_text text ≡ outcome → length text ≤ 65536 → IsJudged text
-judged_outcome each sources end least none text (Fine p) is short = judged_program end least none text p short is (no_tokens p (sources text p is).no_tokens)
+judged_outcome each sources end least none text (Fine p) is short = judged_program end least none text p short is (proper_tokens (length p.bodies) p.tokens (sources text p is).token_items)
 judged_outcome each sources end least none text (Refused token cause) is short = inl (SourceRefused (record { token = token; cause = cause }), [], (short, is))
 judged_outcome each sources end least none text NotBuilt is short = inl (NotYet, [], (short, is))
 judged_outcome each sources end least none text Endless is short = absurd (each text is)

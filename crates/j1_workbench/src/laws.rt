@@ -3,7 +3,7 @@ ghost use Rattle.j1_workbench.specs.Completeness.{AnswersAreComplete};
 ghost use Rattle.j1_workbench.specs.Headline.{TextsAreBuilt, CertifiedTextsAgree};
 
 use chip_laws::{certified_chips_agree, certified_chips_keep_tight};
-use code_layout::{code_is_light, last_calls_are_jumps};
+use code_layout::{code_is_light, items_are_light, last_calls_are_jumps};
 use control_flow::{programs_are_sources, tests_widen, texts_are_judged};
 use depth_certifier::rounds_judge;
 use forth_library::library_means;
@@ -17,6 +17,7 @@ pub fn texts_are_built()
     programs_are_sources();
     tests_widen();
     code_is_light();
+    items_are_light();
     library_means();
 }
 

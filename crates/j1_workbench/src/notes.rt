@@ -62,6 +62,7 @@ fn cause_named(cause: SourceCause) -> &'static [u8]
         SourceCause::BadNest => b"BadNest",
         SourceCause::TooDeep => b"TooDeep",
         SourceCause::HostUnderflow => b"HostUnderflow",
+        SourceCause::BadSplit => b"BadSplit",
         SourceCause::HostOverflow => b"HostOverflow",
         SourceCause::TooManyWords => b"TooManyWords",
         SourceCause::DataFull => b"DataFull",

@@ -3,6 +3,7 @@ mod bounds;
 mod commands;
 mod evaluation;
 mod folders;
+mod host_words;
 mod images;
 mod library;
 mod limits;

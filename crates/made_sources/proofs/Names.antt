@@ -11,6 +11,8 @@ use Rattle.word_table.specs.declared.word.Word.{Word}
 use Rattle.word_table.specs.Names.{name_of, all_words, first_named, word_named}
 use Rattle.dictionary_core.specs.Buckets.{is_same_name}
 use Rattle.dictionary_core.specs.Pairs.{Pair, pair, newest_value}
+use Rattle.host_state.specs.declared.entry.Entry.{Entry}
+use Rattle.host_state.specs.declared.entry.Known.TheVariants as known
 use Rattle.made_sources.specs.MadeProgram.{made_name}
 use Rattle.made_sources.proofs.Figures.{is_figure, figures, some, lowered}
 
@@ -61,25 +63,29 @@ name_is_no_word place h = unnamed is_numbered (str_to_ascii_lowercase (made_name
 -- ---- the entries of the first definitions
 
 -- the names of the places from 1 to a last one, each with the number of its definition
-abbrev pub entries_to : ℕ → List (Pair ℕ)
+abbrev pub entries_to : ℕ → List (Pair Entry)
 entries_to zero = []
-entries_to (suc place) = entries_to place ++ pair (made_name (place + 1)) place ∷ []
+entries_to (suc place) = entries_to place ++ pair (made_name (place + 1)) (record { number = length (entries_to place); known = known.Definition place }) ∷ []
 
-abbrev found_or : Bool → ℕ → Option ℕ → Option ℕ
+-- the entry of a definition
+abbrev pub made_entry : ℕ → Entry
+made_entry definition = record { number = length (entries_to definition); known = known.Definition definition }
+
+abbrev found_or : Bool → Entry → Option Entry → Option Entry
 found_or true value other = Some value
 found_or false value other = other
 
 -- the newest pair is looked at first
-pub newest_behind : (pairs : List (Pair ℕ)) (last : Pair ℕ) (asked : List ℕ) → newest_value (pairs ++ last ∷ []) asked ≡ found_or (is_same_name asked last.name) last.value (newest_value pairs asked)
+pub newest_behind : (pairs : List (Pair Entry)) (last : Pair Entry) (asked : List ℕ) → newest_value (pairs ++ last ∷ []) asked ≡ found_or (is_same_name asked last.name) last.value (newest_value pairs asked)
 newest_behind [] last asked = either (is_same_name asked last.name)
   where
-    either : (b : Bool) → ◌≡◌ {A = Option ℕ} (elim b [ true ↦ Some last.value | false ↦ None ]) (found_or b last.value None)
+    either : (b : Bool) → ◌≡◌ {A = Option Entry} (elim b [ true ↦ Some last.value | false ↦ None ]) (found_or b last.value None)
     either true = refl
     either false = refl
 newest_behind (p ∷ pairs) last asked = rw (newest_behind pairs last asked) (either (is_same_name asked last.name))
   where
     either : (b : Bool) →
-        ◌≡◌ {A = Option ℕ} (elim (found_or b last.value (newest_value pairs asked)) [ Some value ↦ Some value | None ↦ elim (is_same_name asked p.name) [ true ↦ Some p.value | false ↦ None ] ])
+        ◌≡◌ {A = Option Entry} (elim (found_or b last.value (newest_value pairs asked)) [ Some value ↦ Some value | None ↦ elim (is_same_name asked p.name) [ true ↦ Some p.value | false ↦ None ] ])
         (found_or b last.value (newest_value (p ∷ pairs) asked))
     either true = refl
     either false = refl
@@ -93,7 +99,7 @@ same_name name = same_text (str_to_ascii_lowercase name)
 pub clash : (b : Bool) → b ≡ false → b ≡ true → ⊥
 clash b h k = cc
 
-other_name : (b : Bool) (value : ℕ) (rest : Option ℕ) → (b ≡ true → ⊥) → rest ≡ None → found_or b value rest ≡ None
+other_name : (b : Bool) (value : Entry) (rest : Option Entry) → (b ≡ true → ⊥) → rest ≡ None → found_or b value rest ≡ None
 other_name true value rest differs none = absurd (differs refl)
 other_name false value rest differs none = none
 
@@ -101,8 +107,8 @@ other_name false value rest differs none = none
 pub not_found : (asked : List ℕ) (place : ℕ) → place ≤ 200 → is_numbered (str_to_ascii_lowercase asked) ≡ false → newest_value (entries_to place) asked ≡ None
 not_found asked zero small differs = refl
 not_found asked (suc place) small differs =
-    newest_behind (entries_to place) (pair (made_name (place + 1)) place) asked
-    ∙ other_name (is_same_name asked (made_name (place + 1))) place (newest_value (entries_to place) asked)
+    newest_behind (entries_to place) (pair (made_name (place + 1)) (made_entry place)) asked
+    ∙ other_name (is_same_name asked (made_name (place + 1))) (made_entry place) (newest_value (entries_to place) asked)
     (λ same. clash (is_numbered (str_to_ascii_lowercase asked)) differs
     (subst (λ t. is_numbered t ≡ true) ((bytes_eq-Decides (str_to_ascii_lowercase (made_name (place + 1))) (str_to_ascii_lowercase asked)).0 same) (name_passes (place + 1) (omega arith))))
     (not_found asked place (omega arith) differs)
@@ -127,8 +133,8 @@ names_differ i j h k same =
     let e : decimal i ≡ decimal j = cc in
     decimal_injective i j (omega (arith, h)) (omega (arith, k)) e
 
-by_name : (b : Bool) (definition place : ℕ) (rest : Option ℕ) → (b ≡ true → definition ≡ place) → (b ≡ false → rest ≡ Some definition) → found_or b place rest ≡ Some definition
-by_name true definition place rest h k = ap Some (sym (h refl))
+by_name : (b : Bool) (definition place : ℕ) (rest : Option Entry) → (b ≡ true → definition ≡ place) → (b ≡ false → rest ≡ Some (made_entry definition)) → found_or b (made_entry place) rest ≡ Some (made_entry definition)
+by_name true definition place rest h k = ap (λ d. Some (made_entry d)) (sym (h refl))
 by_name false definition place rest h k = k refl
 
 not_last : (definition place : ℕ) → definition < suc place → (definition ≡ place → ⊥) → definition < place
@@ -138,10 +144,10 @@ not_last definition place h differs = elim (definition == place) as (λ b. (defi
 ] refl
 
 -- the entry of a definition
-pub found : (definition place : ℕ) → place ≤ 200 → definition < place → newest_value (entries_to place) (made_name (definition + 1)) ≡ Some definition
+pub found : (definition place : ℕ) → place ≤ 200 → definition < place → newest_value (entries_to place) (made_name (definition + 1)) ≡ Some (made_entry definition)
 found definition zero small inside = absurd (omega arith)
 found definition (suc place) small inside =
-    newest_behind (entries_to place) (pair (made_name (place + 1)) place) (made_name (definition + 1))
+    newest_behind (entries_to place) (pair (made_name (place + 1)) (made_entry place)) (made_name (definition + 1))
     ∙ by_name (is_same_name (made_name (definition + 1)) (made_name (place + 1))) definition place (newest_value (entries_to place) (made_name (definition + 1)))
     (λ same. let e : definition + 1 ≡ place + 1 = names_differ (definition + 1) (place + 1) (omega arith) (omega arith) same in (omega (arith, e)))
     (λ other. found definition place (omega arith)

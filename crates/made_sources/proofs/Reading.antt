@@ -1,5 +1,5 @@
 -- Made sources are read, definition by definition.
-use Rattle.std.proofs.Common.{◌≡◌, ℕ, zero, suc, ◌+◌, ◌-◌, ◌*◌, ◌%◌, ◌<◌, ◌≤◌, true, false, List, [], ◌∷◌, ◌++◌, length, Some, None, refl, ap, subst, ◌∙◌, arith, lt-ltb, append_assoc, length-append}
+use Rattle.std.proofs.Common.{◌≡◌, ℕ, zero, suc, ◌+◌, ◌-◌, ◌*◌, ◌%◌, ◌<◌, ◌≤◌, true, false, List, [], ◌∷◌, ◌++◌, length, Some, None, refl, sym, ap, subst, ◌∙◌, arith, lt-ltb, append_assoc, length-append}
 use Rattle.std.proofs.Math.Numerals.{add-one}
 use Rattle.std.specs.Prelude.{codes, decimal}
 use Rattle.std.specs.Str.{str_to_ascii_lowercase}
@@ -7,21 +7,24 @@ use Rattle.word_table.specs.declared.word.Word.TheVariants as word
 use Rattle.word_table.specs.Table.{entry_of}
 use Rattle.word_table.specs.Names.{word_named}
 use Rattle.forth_program.specs.Tree.{Nodes, Literal, Plain, Call, Then}
+use Rattle.forth_reader.specs.declared.number.NumberRead.TheVariants.{Value}
 use Rattle.forth_reader.specs.Reading.{may_follow_token, next_from}
 use Rattle.forth_reader.specs.Splitting.{NextIsComputed, NameIsComputed}
 use Rattle.dictionary_core.specs.Pairs.{pair, newest_value}
 use Rattle.control_flow.specs.declared.refusal.SourceCause.TheVariants as cause
 use Rattle.control_flow.specs.declared.nest.Ending.TheVariants as ending
-use Rattle.control_flow.specs.ParseResult.{ParserState, ParseResult, Fine, Refused, ◌>>=◌}
-use Rattle.control_flow.specs.Sense.{sense_in}
-use Rattle.control_flow.specs.Items.{Many, Named, alone, then_items, items_by, items_at, spelled_at}
-use Rattle.control_flow.specs.SourceText.{Source, definable, definition_named, defined_by, with_definition, program_with, outside_of, outside_at, source_by, source_at, beginning, source_start, program_of_text}
+use Rattle.control_flow.specs.ParseResult.{ParserState, ParseResult, Fine, Refused, NotBuilt, ◌>>=◌}
+use Rattle.control_flow.specs.Sense.{number_sense, sense_in, is_create}
+use Rattle.control_flow.specs.ReadTokens.{base_at, ReadToken, token_at, Named, spelled_at}
+use Rattle.control_flow.specs.Items.{Many, alone, then_items, items_by, items_at}
+use Rattle.control_flow.specs.SourceText.{Source, definable, definition_by, definition_named, defined_by, with_definition, program_with, main_of, first_host, outside_of, outside_at}
+use Rattle.control_flow.specs.SourceText.{source_by, source_at, beginning, source_start, program_of_text}
 use Rattle.made_sources.specs.MadeSource.{next_number, operation, definition, definitions, calls, made_source}
 use Rattle.made_sources.specs.MadeProgram.{number_at, operation_word, number_body, made_name, names_to, bodies_to, calls_and_print, made_program}
 use Rattle.made_sources.specs.Laws.{MadeSourcesAreRead}
 use Rattle.made_sources.proofs.Figures.{short, number_is}
-use Rattle.made_sources.proofs.Names.{entries_to, is_numbered, number_is_no_word, name_is_no_word, newest_behind, not_found, number_not_found, found}
-use Rattle.made_sources.proofs.Tokens.{IsToken, is_token, name_token, number_token, token_is, name_is, behind, item_then, items_end, call_item, number_item, word_item}
+use Rattle.made_sources.proofs.Names.{entries_to, made_entry, is_numbered, number_is_no_word, name_is_no_word, newest_behind, not_found, number_not_found, found}
+use Rattle.made_sources.proofs.Tokens.{IsToken, is_token, name_token, number_token, token_is, name_is, behind, item_then, items_end, call_item, number_is_sense, number_item, word_item}
 
 -- ---- the operations
 
@@ -39,7 +42,7 @@ unknown : (at : ParserState) (token : List ℕ) (place : ℕ) → at.entries ≡
 unknown at token place entries small differs = ap (λ e. newest_value e token) entries ∙ not_found token place small differs
 
 operation_item : (kind place : ℕ) (at seen : ParserState) (go : ParserState → ParseResult Many) (m : ℕ) → at.entries ≡ entries_to place → place ≤ 200 →
-    items_by go m seen (sense_in at.entries (operation kind)) ≡ then_items go (alone (entry_of (operation_word kind)).weight (Plain (operation_word kind)) seen)
+    items_by go m seen (sense_in at.entries (base_at at) (operation kind)) ≡ then_items go (alone (entry_of (operation_word kind)).weight (Plain (operation_word kind)) seen)
 operation_item zero place at seen go m entries small = word_item at seen (operation 0) go m word.Plus 1 (unknown at (operation 0) place entries small refl) refl
 operation_item (suc zero) place at seen go m entries small = word_item at seen (operation 1) go m word.Xor 1 (unknown at (operation 1) place entries small refl) refl
 operation_item (suc (suc zero)) place at seen go m entries small = word_item at seen (operation 2) go m word.Minus 4 (unknown at (operation 2) place entries small refl) refl
@@ -67,19 +70,33 @@ colon_is at more same = ap (outside_of at) same
 definable_is : (named : Named) → word_named named.name ≡ None → length named.at.entries < 512 → definable named ≡ Fine named
 definable_is named none few = rw (none, lt-ltb (length named.at.entries) 512 few, definable) refl
 
--- the source behind a definition whose items are read
-defined : (n : ℕ) (source : Source) (at named after : ParserState) (name : List ℕ) (nodes : Nodes) →
+-- a definition whose items are read, and whose first token is no CREATE
+named_definition : (n : ℕ) (source : Source) (named : ParserState) (name : List ℕ) (first : ReadToken) (many : Many) →
+    token_at named ≡ Fine first → is_create first.sense ≡ false → items_at (suc n) named ≡ Fine many →
+    definition_named n source (record { name = name; at = named }) ≡ defined_by source name many.nodes many.at many.ending
+unfolding items_at
+named_definition n source named name first many read other items =
+    let by_first : (token_at named >>= λ seen. items_by (items_at n) n seen.at seen.sense) ≡ items_by (items_at n) n first.at first.sense = ap (λ r. r >>= λ seen. items_by (items_at n) n seen.at seen.sense) read in
+    let same : items_by (items_at n) n first.at first.sense ≡ Fine many = sym by_first ∙ items in
+    ap (λ r. r >>= definition_by n source name) read
+    ∙ ap (λ t. elim t as (λ t. ParseResult Source) [ true ↦ NotBuilt | false ↦ items_by (items_at n) n first.at first.sense >>= λ many. defined_by source name many.nodes many.at many.ending ]) other
+    ∙ ap (λ r. r >>= λ many. defined_by source name many.nodes many.at many.ending) same
+
+-- the source behind it
+defined : (n : ℕ) (source : Source) (at named after : ParserState) (name : List ℕ) (nodes : Nodes) (first : ReadToken) →
     outside_at source.at ≡ Fine (record { begins = true; at = at }) →
     spelled_at at ≡ Fine (record { name = name; at = named }) →
     definable (record { name = name; at = named }) ≡ Fine (record { name = name; at = named }) →
-    items_at n named ≡ Fine (record { nodes = nodes; ending = ending.Semicolon; at = after }) →
+    token_at named ≡ Fine first →
+    is_create first.sense ≡ false →
+    items_at (suc n) named ≡ Fine (record { nodes = nodes; ending = ending.Semicolon; at = after }) →
     source_at (suc n) source ≡ source_at n (with_definition source name nodes after)
 unfolding source_at
-defined n source at named after name nodes outside spelled free items =
+defined n source at named after name nodes first outside spelled free read other items =
     ap (λ r. r >>= source_by (source_at n) n source) outside
     ∙ ap (λ r. r >>= definable >>= definition_named n source >>= source_at n) spelled
     ∙ ap (λ r. r >>= definition_named n source >>= source_at n) free
-    ∙ ap (λ r. r >>= (λ many. defined_by source name many.nodes many.at many.ending) >>= source_at n) items
+    ∙ ap (λ r. r >>= source_at n) (named_definition n source named name first _ read other items)
 
 few_entries : (place : ℕ) → length (entries_to place) ≡ place
 few_entries zero = refl
@@ -120,17 +137,18 @@ below_range : (seed place : ℕ) → number_at seed (suc place) < 65536
 below_range seed place = omega arith
 
 module _ (next : NextIsComputed) (names : NameIsComputed) where
-  number_items : (n v place : ℕ) (at : ParserState) (more : List ℕ) → at.rest ≡ number_text v more → v < 65536 → at.entries ≡ entries_to place → place ≤ 200 → at.nest ≡ [] → at.weight ≤ 2390 →
+  number_items : (n v place : ℕ) (at : ParserState) (more : List ℕ) → at.rest ≡ number_text v more → v < 65536 → at.entries ≡ entries_to place → place ≤ 200 →
+      sense_in at.entries (base_at at) (decimal v) ≡ number_sense (Value v) → at.nest ≡ [] → at.weight ≤ 2390 →
       items_at (suc (suc (suc n))) at ≡ Fine
       (record { nodes = number_body v; ending = ending.Semicolon; at = record at { rest = 10 ∷ more; count = at.count + 1 + 1 + 1; nest = []; weight = at.weight + 2 + operation_weight v + 1 } })
-  number_items n v place at more text h entries small outside light =
+  number_items n v place at more text h entries small is outside light =
       let a = behind at (32 ∷ (operation (v % 4) ++ (32 ∷ 59 ∷ 10 ∷ more))) in
       let b = behind (record a { weight = a.weight + 2 }) (32 ∷ 59 ∷ 10 ∷ more) in
       let c = behind (record b { weight = b.weight + operation_weight v }) (10 ∷ more) in
       let o = light_operation (v % 4) in
       item_then (suc (suc n)) at a (decimal v) 2 (Literal v) _
       (token_is next names at (decimal v) (32 ∷ (operation (v % 4) ++ (32 ∷ 59 ∷ 10 ∷ more))) text (number_token v h) refl)
-      (λ go m. number_item at a (decimal v) go m v (ap (λ e. newest_value e (decimal v)) entries ∙ number_not_found v place h small) (number_is_no_word v h) (number_is v h)) (omega (arith, light))
+      (λ go m. number_item at a (decimal v) go m v is) (omega (arith, light))
       (item_then (suc n) (record a { weight = a.weight + 2 }) b (operation (v % 4)) (operation_weight v) (Plain (operation_word (v % 4))) _
       (token_is next names (record a { weight = a.weight + 2 }) (operation (v % 4)) (32 ∷ 59 ∷ 10 ∷ more) refl (operation_token (v % 4)) refl)
       (λ go m. operation_item (v % 4) place (record a { weight = a.weight + 2 }) b go m entries small) (omega (arith, light, o))
@@ -148,11 +166,16 @@ module _ (next : NextIsComputed) (names : NameIsComputed) where
       let named = behind at (number_text v more) in
       let few = few_entries place in
       let light = light_to seed place in
-      defined (suc (suc (suc n))) (source_to seed place rest) at named _ (made_name (place + 1)) (number_body v)
+      let first = behind named (32 ∷ (operation (v % 4) ++ (32 ∷ 59 ∷ 10 ∷ more))) in
+      let is : sense_in named.entries (base_at named) (decimal v) ≡ number_sense (Value v) =
+          number_is_sense named (decimal v) v (number_not_found v place (below_range seed place) (omega arith)) (number_is_no_word v (below_range seed place)) refl (number_is v (below_range seed place)) in
+      defined (suc (suc (suc n))) (source_to seed place rest) at named _ (made_name (place + 1)) (number_body v) (record { sense = sense_in named.entries (base_at named) (decimal v); at = first })
       (colon_is (state_with seed place place rest) (made_name (place + 1) ++ number_text v more) (same ∙ ap (next_from (count_to place)) (line_is (place + 1) v more)))
       (name_is next names at (made_name (place + 1)) (number_text v more) refl (name_token (place + 1) (omega arith)) refl)
       (definable_is (record { name = made_name (place + 1); at = named }) (name_is_no_word (place + 1) (omega arith)) (omega (arith, few)))
-      (number_items n v place named more refl (below_range seed place) refl (omega arith) refl (omega (arith, light)))
+      (token_is next names named (decimal v) (32 ∷ (operation (v % 4) ++ (32 ∷ 59 ∷ 10 ∷ more))) refl (number_token v (below_range seed place)) refl)
+      (ap is_create is)
+      (number_items (suc n) v place named more refl (below_range seed place) refl (omega arith) is refl (omega (arith, light)))
       ∙ ap (λ d. source_at (suc (suc (suc n))) (source_with seed (suc place) d (10 ∷ more))) (add-one place)
 
 -- ---- all definitions
@@ -239,17 +262,22 @@ module _ (next : NextIsComputed) (names : NameIsComputed) where
       let counted = tokens_to count in
       let nodes = Then (Literal 1) (calls_and_print count 0) in
       let t : count_to count + 1 + 1 + 1 + count + 2 ≡ 6 * count + 5 = omega arith in
-      defined (suc (suc (suc (more_fuel count k)))) (source_to seed count rest) at named after (codes "MAIN") nodes
+      let is : sense_in named.entries (base_at named) (codes "1") ≡ number_sense (Value 1) = number_is_sense named (codes "1") 1 (unknown named (codes "1") count refl small refl) refl refl refl in
+      let read = token_is next names named (codes "1") (calls count 1 ++ print_text) refl (is_token (codes "1") (omega arith) (omega arith) refl refl refl) (calls_follow count 1) in
+      defined (suc (suc (suc (more_fuel count k)))) (source_to seed count rest) at named after (codes "MAIN") nodes (record { sense = sense_in named.entries (base_at named) (codes "1"); at = one })
       (colon_is before (codes "MAIN 1" ++ (calls count 1 ++ print_text)) same)
       (name_is next names at (codes "MAIN") (codes " 1" ++ (calls count 1 ++ print_text)) refl (is_token (codes "MAIN") (omega arith) (omega arith) refl refl refl) refl)
       (definable_is (record { name = codes "MAIN"; at = named }) refl (omega (arith, few)))
-      (item_then (suc (suc (more_fuel count k))) named one (codes "1") 2 (Literal 1) _
-      (token_is next names named (codes "1") (calls count 1 ++ print_text) refl (is_token (codes "1") (omega arith) (omega arith) refl refl refl) (calls_follow count 1))
-      (λ go m. number_item named one (codes "1") go m 1 (unknown named (codes "1") count refl small refl) refl refl) (omega (arith, light))
-      (calls_read count 0 count k b (b.count + count + 2) (b.weight + count + 2) refl refl (omega arith) small refl (omega (arith, light)) refl refl))
-      ∙ ap (λ main. elim main [ Some m ↦ Fine (program_with (names_to count ++ codes "MAIN" ∷ []) (bodies_to seed count ++ nodes ∷ []) m after.count) | None ↦ Refused (after.count + 1) cause.NoMain ])
-      (newest_behind (entries_to count) (pair (codes "MAIN") count) (codes "MAIN"))
-      ∙ ap (λ t. Fine (program_with (names_to count ++ codes "MAIN" ∷ []) (bodies_to seed count ++ nodes ∷ []) count t)) t
+      read
+      (ap is_create is)
+      (ap (λ f. items_at (suc (suc (suc f))) named) (let a = more_is count k in let b = more_is count (suc k) in omega arith)
+      ∙ item_then (suc (suc (more_fuel count (suc k)))) named one (codes "1") 2 (Literal 1) _
+      read
+      (λ go m. number_item named one (codes "1") go m 1 is) (omega (arith, light))
+      (calls_read count 0 count (suc k) b (b.count + count + 2) (b.weight + count + 2) refl refl (omega arith) small refl (omega (arith, light)) refl refl))
+      ∙ ap (λ main. elim (main_of main) [ Some m ↦ Fine (program_with (names_to count ++ codes "MAIN" ∷ []) (bodies_to seed count ++ nodes ∷ []) m after.count first_host) | None ↦ Refused (after.count + 1) cause.NoMain ])
+      (newest_behind (entries_to count) (pair (codes "MAIN") (made_entry count)) (codes "MAIN"))
+      ∙ ap (λ t. Fine (program_with (names_to count ++ codes "MAIN" ∷ []) (bodies_to seed count ++ nodes ∷ []) count t first_host)) t
 
 -- ---- how long the text is
 

@@ -16,10 +16,11 @@ use Rattle.dictionary_core.specs.Pairs.{newest_value}
 use Rattle.control_flow.specs.declared.nest.Ending.TheVariants as ending
 use Rattle.control_flow.specs.ParseResult.{ParserState, ParseResult, Fine, ◌>>=◌, weighed_as, weighed}
 use Rattle.control_flow.specs.Nest.{nest_ended}
-use Rattle.control_flow.specs.Sense.{number_sense, sense_by, sense_of, sense_in}
-use Rattle.control_flow.specs.Items.{One, Many, read_token_of, token_at, spelled_of, spelled_at, nested, alone, then_items, items_by, items_at}
+use Rattle.control_flow.specs.Sense.{number_sense, sense_by, sense_in}
+use Rattle.control_flow.specs.ReadTokens.{base_at, read_token_of, token_at, spelled_of, spelled_at}
+use Rattle.control_flow.specs.Items.{One, Many, nested, alone, then_items, items_by, items_at}
 use Rattle.made_sources.specs.MadeProgram.{made_name}
-use Rattle.made_sources.proofs.Names.{clash}
+use Rattle.made_sources.proofs.Names.{made_entry, clash}
 use Rattle.made_sources.proofs.Figures.{is_figure, figures, graphic, some, short}
 
 -- a token that opens no comment
@@ -84,7 +85,7 @@ module _ (next : NextIsComputed) (names : NameIsComputed) where
   }))
 
   pub token_is : (at : ParserState) (token rest : List ℕ) → at.rest ≡ 32 ∷ (token ++ rest) → IsToken token → may_follow_token rest ≡ true →
-      token_at at ≡ Fine (record { sense = sense_in at.entries token; at = behind at rest })
+      token_at at ≡ Fine (record { sense = sense_in at.entries (base_at at) token; at = behind at rest })
   token_is at token rest text is follows =
       ap (λ t. read_token_of at (next_from at.count t)) text
       ∙ ap (read_token_of at) (next_token at.count token rest is follows)
@@ -110,8 +111,8 @@ ended after = Fine (record { nodes = Empty; ending = ending.Semicolon; at = afte
 
 -- an item of one token, and items behind it
 pub item_then : (n : ℕ) (at seen : ParserState) (token : List ℕ) (weight : ℕ) (node : Node) (many : Many) →
-    token_at at ≡ Fine (record { sense = sense_in at.entries token; at = seen }) →
-    ((go : ParserState → ParseResult Many) (m : ℕ) → items_by go m seen (sense_in at.entries token) ≡ then_items go (alone weight node seen)) →
+    token_at at ≡ Fine (record { sense = sense_in at.entries (base_at at) token; at = seen }) →
+    ((go : ParserState → ParseResult Many) (m : ℕ) → items_by go m seen (sense_in at.entries (base_at at) token) ≡ then_items go (alone weight node seen)) →
     seen.weight + weight ≤ 2400 → items_at n (record seen { weight = seen.weight + weight }) ≡ Fine many →
     items_at (suc n) at ≡ Fine (record many { nodes = Then node many.nodes })
 unfolding items_at
@@ -122,7 +123,7 @@ item_then n at seen token weight node many read stands light rest =
     ∙ ap (λ r. r >>= many_with node) rest
 
 -- the end of a definition, where no definition is named `;`
-pub items_end : (n : ℕ) (at seen : ParserState) → token_at at ≡ Fine (record { sense = sense_in at.entries (59 ∷ []); at = seen }) → newest_value at.entries (59 ∷ []) ≡ None → seen.nest ≡ [] → seen.weight + 1 ≤ 2400 →
+pub items_end : (n : ℕ) (at seen : ParserState) → token_at at ≡ Fine (record { sense = sense_in at.entries (base_at at) (59 ∷ []); at = seen }) → newest_value at.entries (59 ∷ []) ≡ None → seen.nest ≡ [] → seen.weight + 1 ≤ 2400 →
     items_at (suc n) at ≡ Fine (record { nodes = Empty; ending = ending.Semicolon; at = record seen { nest = []; weight = seen.weight + 1 } })
 unfolding items_at
 items_end n at seen read none outside light =
@@ -131,24 +132,29 @@ items_end n at seen read none outside light =
     ∙ ap (λ nest. nested seen (nest_ended nest ending.Semicolon) >>= weighed 1 >>= ended) outside
     ∙ ap (λ r. r >>= ended) (weighs seen.count 1 (record seen { nest = [] }) light)
   where
-    stands : items_by (items_at n) n seen (sense_in at.entries (59 ∷ [])) ≡ (nested seen (nest_ended seen.nest ending.Semicolon) >>= weighed 1 >>= ended)
+    stands : items_by (items_at n) n seen (sense_in at.entries (base_at at) (59 ∷ [])) ≡ (nested seen (nest_ended seen.nest ending.Semicolon) >>= weighed 1 >>= ended)
     stands = rw (none, items_by, sense_in) refl
 
 -- ---- what items stand for
 
-module _ (at seen : ParserState) (token : List ℕ) (go : ParserState → ParseResult Many) (m : ℕ) where
-  unnamed_sense : newest_value at.entries token ≡ None → sense_in at.entries token ≡ sense_of token
+module _ (at : ParserState) (token : List ℕ) where
+  unnamed_sense : newest_value at.entries token ≡ None → sense_in at.entries (base_at at) token ≡ sense_by (base_at at) token (word_named token)
   unnamed_sense none = rw (none, sense_in) refl
 
+  -- a number
+  pub number_is_sense : (v : ℕ) → newest_value at.entries token ≡ None → word_named token ≡ None → base_at at ≡ 10 → number_read 10 token ≡ Value v → sense_in at.entries (base_at at) token ≡ number_sense (Value v)
+  number_is_sense v none unnamed base reads = unnamed_sense none ∙ ap (sense_by (base_at at) token) unnamed ∙ ap (λ b. number_sense (number_read b token)) base ∙ ap number_sense reads
+
+module _ (at seen : ParserState) (token : List ℕ) (go : ParserState → ParseResult Many) (m : ℕ) where
   -- a call of the definition that is found
-  pub call_item : (definition : ℕ) → newest_value at.entries token ≡ Some definition → items_by go m seen (sense_in at.entries token) ≡ then_items go (alone 1 (Call definition) seen)
+  pub call_item : (definition : ℕ) → newest_value at.entries token ≡ Some (made_entry definition) → items_by go m seen (sense_in at.entries (base_at at) token) ≡ then_items go (alone 1 (Call definition) seen)
   call_item definition found = rw (found, items_by, sense_in) refl
 
   -- a number
-  pub number_item : (v : ℕ) → newest_value at.entries token ≡ None → word_named token ≡ None → number_read 10 token ≡ Value v → items_by go m seen (sense_in at.entries token) ≡ then_items go (alone 2 (Literal v) seen)
-  number_item v none unnamed reads = ap (items_by go m seen) (unnamed_sense none ∙ ap (sense_by token) unnamed ∙ ap number_sense reads)
+  pub number_item : (v : ℕ) → sense_in at.entries (base_at at) token ≡ number_sense (Value v) → items_by go m seen (sense_in at.entries (base_at at) token) ≡ then_items go (alone 2 (Literal v) seen)
+  number_item v is = ap (items_by go m seen) is
 
   -- a word of the table
-  pub word_item : (w : Word) (weight : ℕ) → newest_value at.entries token ≡ None → items_by go m seen (sense_of token) ≡ then_items go (alone weight (Plain w) seen) →
-      items_by go m seen (sense_in at.entries token) ≡ then_items go (alone weight (Plain w) seen)
-  word_item w weight none stands = ap (items_by go m seen) (unnamed_sense none) ∙ stands
+  pub word_item : (w : Word) (weight : ℕ) → newest_value at.entries token ≡ None → items_by go m seen (sense_by (base_at at) token (word_named token)) ≡ then_items go (alone weight (Plain w) seen) →
+      items_by go m seen (sense_in at.entries (base_at at) token) ≡ then_items go (alone weight (Plain w) seen)
+  word_item w weight none stands = ap (items_by go m seen) (unnamed_sense at token none) ∙ stands

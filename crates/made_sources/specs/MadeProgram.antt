@@ -4,7 +4,7 @@ use Rattle.word_table.specs.declared.word.Word.{Word}
 use Rattle.word_table.specs.declared.word.Word.TheVariants.{Plus, Xor, Minus, Star, UDot}
 use Rattle.forth_program.specs.Tree.{Nodes, Literal, Plain, Call, Empty, Then}
 use Rattle.forth_program.specs.Program.{SourceProgram}
-use Rattle.control_flow.specs.SourceText.{program_with}
+use Rattle.control_flow.specs.SourceText.{program_with, first_host}
 use Rattle.depth_certifier.specs.declared.effect.Effect.{Effect}
 use Rattle.depth_certifier.specs.Certificate.{Cert}
 use Rattle.made_sources.specs.MadeSource.{next_number}
@@ -48,7 +48,7 @@ calls_and_print (suc count) definition = Then (Call definition) (calls_and_print
 
 -- MAIN calls each definition on 1 and prints what is left
 abbrev pub made_program : ℕ → ℕ → SourceProgram
-made_program seed count = program_with (names_to count ++ codes "MAIN" ∷ []) (bodies_to seed count ++ Then (Literal 1) (calls_and_print count 0) ∷ []) count (6 * count + 5)
+made_program seed count = program_with (names_to count ++ codes "MAIN" ∷ []) (bodies_to seed count ++ Then (Literal 1) (calls_and_print count 0) ∷ []) count (6 * count + 5) first_host
 
 -- ---- its certificate: each definition takes a cell and leaves one
 

@@ -34,6 +34,12 @@ const BOUNDS: &str = r#"
 : MAIN 2 DUP DO BEGIN 1 UNTIL LOOP ;                                   |  |                   | 16 MAIN: no bound: OpenBounds
 : MAIN 3 0 DO BEGIN 1 UNTIL 2 DUP DO LOOP LOOP ;                       |  |                   | 16 MAIN: no bound: BeginLoop
 : MAIN 2 DUP DO LOOP 0 0 DO 0 0 DO 0 0 DO 0 0 DO LOOP LOOP LOOP LOOP ; |  |                   | 16 MAIN: no bound: OpenBounds
+: MAIN 0 EXECUTE ;                                                     |  |                   | 16 MAIN: no bound: Execute
+: F 65 ['] EMIT EXECUTE ; : MAIN F ;                                   |  |                   | 16 F: no bound: Execute
+: MAIN ." ab" ;                                                        |  | 211~
+: MAIN S" ab" TYPE ;                                                   |  | 211~
+: MAIN 0 ABORT" ab" ;                                                  |  | 211~
+: MAIN [ 2 3 + ] LITERAL 0 DO LOOP ;                                   |  | 81~
 : MAIN DROP ;                                                          |  |                   | 4 MAIN: not certified: Data
 : MAIN X ;                                                             |  |                   | 3 source token 3: UnknownWord
 "#;

@@ -28,6 +28,15 @@ const LIMITS: &str = r#"
 : MAIN_ 1, CHARS_ 3000, ; 1                         |        | 4 MAIN: not certified: Data
 : MAIN_ 1, 0_ 1, CHARS_ 3000, DROP_ 1, ; 1
 : MAIN_ 1, 65 EMIT_ 479, ; 1                        | A 479
+: MAIN_ 1, 0_ 1, 1-_ 2390, ['] DUP DROP_ 1, DROP_ 1, ; 1 |   | 
+: MAIN_ 1, 0_ 1, 1-_ 2391, ['] DUP DROP_ 1, DROP_ 1, ; 1 |   | 3 source token 2399: CodeFull
+: MAIN_ 1, 0_ 1, 1-_ 2397, ['] DUP_ 1, ; 1          |        | 3 source token 2401: CodeFull
+: MAIN_ 1, 0_ 1, 1-_ 2398, LITERAL_ 1, ; 1          |        | 3 source token 2402: HostUnderflow
+: MAIN_ 1, 0_ 1, 1-_ 2397, [_1_]_LITERAL_ 1, ; 1    |        | 3 source token 2404: CodeFull
+: MAIN_ 1, [_ 1, 7_ 32, ]_ 1, LITERAL_DROP_ 32, ; 1
+: MAIN_ 1, [_ 1, 7_ 33, ]_ 1, ; 1                   |        | 3 source token 36: HostOverflow
+: MAIN_ 1, [_ 1, 7_ 32, DUP_ 1, ]_ 1, ; 1           |        | 3 source token 36: HostOverflow
+: MAIN_ 1, [_ 1, 7_ 32, HERE_ 1, ]_ 1, ; 1          |        | 3 source token 36: HostOverflow
 _ 65536                                             |        | 3 source token 1: NoMain
 _ 65537                                             |        | 13 source.fs: too large
 "#;

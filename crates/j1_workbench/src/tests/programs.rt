@@ -70,6 +70,8 @@ const CERTIFICATES: &str = r#"
 : F IF 1 ELSE 1 1 THEN ; : MAIN 0 F 2DROP ; |  |                                                                                                     | 4 MAIN: not certified: Data
 : F DUP ; : G F F ; : MAIN 1 G 2DROP DROP ; |  | F_need_1_peak_1_back_0_exit_1_1~G_need_1_peak_2_back_1_exit_2_2~MAIN_need_0_peak_3_back_2_exit_0_0~
 : MAIN DROP ;                               |  |                                                                                                     | 4 MAIN: not certified: Data
+: MAIN 65 ['] EMIT EXECUTE ;                |  | MAIN_need_0_peak_6_back_3_exit_0_0~*_need_1_peak_1_back_0_exit_-1_-1~
+: MAIN S" ab" TYPE ." c" ;                  |  | MAIN_need_0_peak_10_back_7_exit_0_0~
 : MAIN X ;                                  |  |                                                                                                     | 3 source token 3: UnknownWord
 "#;
 

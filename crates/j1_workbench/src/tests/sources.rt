@@ -61,9 +61,8 @@ X : MAIN ;                                |    |         | 15 not yet
 A2345678901234567890123456789012 : MAIN ; |    |         | 3 source token 1: NameTooLong
 : MAIN 0 IF THEN ;
 : MAIN 1 >R ;                             |    |         | 4 MAIN: not certified: Shape
-: MAIN ." abc                             |    |         | 15 not yet
 : MAIN 1 . ;                              |    | 1_
-: MAIN 1 CONSTANT X ;                     |    |         | 15 not yet
+: MAIN 1 CONSTANT X ;                     |    |         | 3 source token 4: NotInDefinition
 : MAIN EXIT XYZZY ;                       |    |         | 3 source token 4: UnknownWord
 : MAIN XYZZY EXIT ;                       |    |         | 3 source token 3: UnknownWord
 : MAIN . 65536 ;                          |    |         | 3 source token 4: NumberRange

@@ -18,7 +18,8 @@ program-requires-clause-form c =
     let n = suc (length c.args.bytes.now) in
     program_form _ (subst (Good IsSource)
     (at_end _ (n - length c.definitions.source.bodies.items) (source_of c.definitions.source) (c.definitions.invariant.same n (omega arith)) (omega (arith, c.definitions.invariant.room))
-    c.in-Ok-outside.begins (parser_state c.outside.new.self) c.in-Ok-outside.ensures.gives c.if-not-begins.true) (text_read c.args.bytes.now))
+    c.in-Ok-outside.begins (parser_state c.outside.new.self) c.in-Ok-outside.ensures.gives c.if-not-begins.true)
+    (text_read (record { keep = c.host_words_keep.ensures.words; fit = c.host_words_keep.ensures.images; begin = c.host_words_keep.ensures.first }) c.args.bytes.now))
 
 pub returns-then-not-begins : goal.returns-then-not-begins
 returns-then-not-begins c =

@@ -1,8 +1,8 @@
 use Rattle.std.proofs.Common.{◌≡◌, ℕ, ◌+◌, ◌-◌, ◌*◌, ◌<◌, ◌≤◌, length}
 use Rattle.forth_program.specs.ItemTrees.{items_of, arms_of}
-use Rattle.control_flow.specs.Items.{arms_at, items_at}
+use Rattle.control_flow.specs.Items.{arms_at, items_by, items_at}
 use Rattle.control_flow.specs.Answers.{parser_state, IsReadyParser}
-use Rattle.control_flow.proofs.ItemLists.{behind}
+use Rattle.control_flow.proofs.ItemLists.{Reaches}
 use Rattle.control_flow.proofs.ArmLists.{behind_arms}
 use Rattle.control_flow.proofs.parser.Parser.+items.Given as goal
 
@@ -33,15 +33,18 @@ decreases-structure l = 5 * length l.self.now.reader.rest + 3
 abbrev pub decreases-item : goal.decreases-item
 decreases-item l = 5 * length l.self.now.reader.rest + 4
 
-abbrev pub invariant-items-tokens : goal.invariant-items-tokens
-invariant-items-tokens l = record {
-  same : (n : ℕ) → length l.fn.self.reader.rest < n → items_at n (parser_state l.fn.self) ≡ behind (items_of l.done) (items_at (n - length (items_of l.done)) (parser_state l.self));
-  room : length (items_of l.done) + length l.self.reader.rest ≤ length l.fn.self.reader.rest;
+abbrev pub decreases-items_from : goal.decreases-items_from
+decreases-items_from l = 5 * length l.self.now.reader.rest + 5
+
+abbrev pub invariant-items_from-tokens : goal.invariant-items_from-tokens
+invariant-items_from-tokens l = record {
+  same : (n : ℕ) → length l.fn.self.reader.rest < n → Reaches (items_by (items_at n) n (parser_state l.fn.self) l.fn.first) (items_of l.done) (parser_state l.self) l.sense;
+  room : length l.self.reader.rest ≤ length l.fn.self.reader.rest;
   ready : IsReadyParser l.self;
 }
 
-abbrev pub decreases-items-tokens : goal.decreases-items-tokens
-decreases-items-tokens l = length l.self.reader.rest
+abbrev pub decreases-items_from-tokens : goal.decreases-items_from-tokens
+decreases-items_from-tokens l = length l.self.reader.rest
 
 abbrev pub invariant-case_item-arms : goal.invariant-case_item-arms
 invariant-case_item-arms l = record {
