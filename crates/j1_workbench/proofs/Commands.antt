@@ -1,5 +1,5 @@
 -- What the relation of each command says, part by part.
-use Rattle.std.proofs.Common.{◌≡◌, inl, inr, ℕ, Bool, true, false, List, [], ◌∷◌, ◌++◌, refl, sym, subst}
+use Rattle.std.proofs.Common.{◌≡◌, inl, inr, ℕ, ◌≤◌, Bool, true, false, List, [], ◌∷◌, ◌++◌, refl, sym, subst, arith}
 use Rattle.std.specs.Prelude.{Option, Some, None, Result, decimal, slice_index_or}
 use Rattle.j1_table.specs.Image.{Content}
 use Rattle.decompiler.specs.Listing.{listing}
@@ -18,7 +18,7 @@ use Rattle.step_certifier.specs.Law.{EndsOnChip}
 use Rattle.j1_workbench.specs.declared.status.Status.{Status}
 use Rattle.j1_workbench.specs.declared.status.Status.TheVariants.{BadWords, OutOfMemory, NotYet, BoundRefused}
 use Rattle.j1_workbench.specs.declared.answer.Answer.{Answer}
-use Rattle.j1_workbench.specs.Words.{Request, Run, Build, Execute, ListImage, Assemble, Certify, Evaluate, Forth, Make, Bound, steps_allowed}
+use Rattle.j1_workbench.specs.Words.{Request, Run, Build, Execute, ListImage, Assemble, Certify, Evaluate, Forth, Make, Bound, request_of, steps_allowed}
 use Rattle.j1_workbench.specs.Notes.{named}
 use Rattle.j1_workbench.specs.Surroundings.{FolderState, Surroundings, IsOnlyRead}
 use Rattle.j1_workbench.specs.Sources.{HasCertificate, IsRefusedSource, IsCertifiedSource}
@@ -39,6 +39,7 @@ use Rattle.reference_eval.specs.declared.ends.EvalError.{EvalError}
 use Rattle.reference_eval.specs.Outside.{input_of}
 use Rattle.reference_eval.specs.Evaluation.{Evaluates as EvaluatesRun}
 use Rattle.j1_workbench.specs.Answers.{Does}
+use Rattle.j1_workbench.proofs.Counts.{count_fits}
 
 -- the program of a source file can be laid out
 pub built : TextsAreBuilt → (source : List ℕ) (before : FolderState) (program : SourceProgram) (certificate : Cert) → IsCertifiedSource source before program certificate → IsBuilt whole_library program
@@ -231,11 +232,16 @@ unfolding Does
 does_assemble request text file before after status answer asked is assembles =
     subst (λ a. Does request before after a.status (named a.name)) (sym is) (subst (λ r. Does r before after status []) (sym asked) assembles)
 
-pub does_make : (request : Option Request) (seed count steps : ℕ) (before after : Surroundings) (status : Status) (name : List ℕ) →
-    request ≡ Some (Make seed count) → steps ≡ steps_allowed None → Makes seed count steps before after status name → Does request before after status name
+enough : 10000000 ≤ steps_allowed None
+unfolding steps_allowed
+enough = omega arith
+
+pub does_make : (words : List (List ℕ)) (seed count steps : ℕ) (before after : Surroundings) (status : Status) (name : List ℕ) →
+    request_of words ≡ Some (Make seed count) → steps ≡ steps_allowed None → (count ≤ 200 → 10000000 ≤ steps → Makes seed count steps before after status) → Does (request_of words) before after status name
 unfolding Does
-does_make request seed count steps before after status name asked same makes =
-    subst (λ r. Does r before after status name) (sym asked) (subst (λ n. Makes seed count n before after status name) same makes)
+does_make words seed count steps before after status name asked same makes =
+    subst (λ r. Does r before after status name) (sym asked)
+    (subst (λ n. Makes seed count n before after status) same (makes (count_fits words seed count asked) (subst (λ n. 10000000 ≤ n) (sym same) enough)))
 
 -- the commands that are not built
 abbrev is_unbuilt : Request → Bool

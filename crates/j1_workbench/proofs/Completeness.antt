@@ -1,12 +1,11 @@
 -- Each source has its one answer, where nothing outside fails.
 use Rattle.std.proofs.Common.{◌≡◌, ◌⊎◌, inl, inr, ℕ, zero, suc, ◌<◌, ◌≤◌, List, [], ◌∷◌, length, true, false, nat_le, refl, sym, ap, ◌∙◌, subst, arith}
 use Rattle.std.proofs.lemmas.Bool.Decides.{nat_tests}
-use Rattle.std.specs.Prelude.{Option, Some, None, Result, Ok, Err, slice_index_or}
+use Rattle.std.specs.Prelude.{Result, Ok, Err, slice_index_or}
 use Rattle.std.specs.List.{All, list_all}
 use Rattle.std.proofs.lemmas.Bool.{and_parts}
 use Rattle.std.proofs.lemmas.List.Elements.{All-nil, All-cons}
 use Rattle.outside_io.specs.Causes.{Rose}
-use Rattle.outside_io.specs.Files.{Files, Lacks}
 use Rattle.forth_program.specs.Tree.{Node, Literal, Plain, Call, Child}
 use Rattle.forth_program.specs.Program.{SourceProgram}
 use Rattle.control_flow.specs.ParseResult.{ParseResult, Fine, Refused, NotBuilt, Endless}
@@ -19,18 +18,17 @@ use Rattle.depth_certifier.specs.declared.effect.CertCause.{CertCause}
 use Rattle.depth_certifier.specs.Certificate.{Cert, IsValid}
 use Rattle.depth_certifier.specs.Rounds.{Refusal, RoundsRefuse, ProperToken, RoundsEnd, RoundsFindTheLeast, RefusedHaveNone, OneRefusal}
 use Rattle.j1_workbench.specs.declared.status.Status.{Status}
-use Rattle.j1_workbench.specs.declared.status.Status.TheVariants.{Done, BadWords, Missing, SourceRefused, NotCertified, StepsUsed, InputEnded, Outside, Halted, ReadFault, WriteFault, OutOfMemory, TooLarge, NotYet}
+use Rattle.j1_workbench.specs.declared.status.Status.TheVariants.{Done, Missing, SourceRefused, NotCertified, ReadFault, OutOfMemory, TooLarge, NotYet}
 use Rattle.j1_workbench.specs.Surroundings.{Stream, FolderState, Surroundings}
 use Rattle.j1_workbench.specs.Files.{HoldsFile}
 use Rattle.j1_workbench.specs.Sources.{HasCertificate, IsUncertified, IsRefusedText, IsRefusedSource}
 use Rattle.j1_workbench.specs.Driving.{IsRunAnswer}
 use Rattle.j1_workbench.specs.Running.{Runs}
 use Rattle.j1_workbench.specs.Compiling.{CompilesSource}
-use Rattle.j1_workbench.specs.Certifying.{Writes, Certifies}
+use Rattle.j1_workbench.specs.Certifying.{Certifies}
 use Rattle.j1_workbench.specs.Bounding.{WritesBound, HasNoBound, Bounds}
 use Rattle.j1_workbench.specs.Building.{Builds}
-use Rattle.j1_workbench.specs.MadeSource.{made_source}
-use Rattle.j1_workbench.specs.Making.{ThenWrites, Makes}
+use Rattle.j1_workbench.specs.Making.{Makes}
 use Rattle.j1_table.specs.Image.{Content}
 use Rattle.image_file.specs.Laws.{FilesAreImages}
 use Rattle.j1_workbench.proofs.FileCompleteness.{ImageFileLaws, TextLaws, told_text, not_missing, done_answer, done_put, run_answer, execute_complete, list_complete, assemble_complete, built_runs}
@@ -45,14 +43,14 @@ use Rattle.j1_workbench.specs.Completeness.{Tells, FailsNowhere, IsComplete, IsE
 
 -- ---- a text has one outcome
 
-same_program : (text : List ℕ) (p q : SourceProgram) → program_of_text text ≡ Fine p → program_of_text text ≡ Fine q → p ≡ q
+pub same_program : (text : List ℕ) (p q : SourceProgram) → program_of_text text ≡ Fine p → program_of_text text ≡ Fine q → p ≡ q
 same_program text p q e f = cc
 
 clash : {A : Type 0} (text : List ℕ) → 65536 < length text → length text ≤ 65536 → A
 clash text long short = absurd (omega arith)
 
 -- the four kinds of a refused text
-by_kind : (P : Status → Type 0) (text : List ℕ) (status : Status) (name : List ℕ) → IsRefusedText text status name →
+pub by_kind : (P : Status → Type 0) (text : List ℕ) (status : Status) (name : List ℕ) → IsRefusedText text status name →
     (65536 < length text → P TooLarge) →
     ((refusal : SourceRefusal) → length text ≤ 65536 → program_of_text text ≡ Refused refusal.token refusal.cause → P (SourceRefused refusal)) →
     ((id : DefId) (cause : CertCause) → IsUncertified text id.0 cause name → P (NotCertified id cause)) →
@@ -183,32 +181,10 @@ build_complete one source file text before after status name (quiet, inr wrote) 
       | inr done ↦ by_source source text before.folder status (λ s. s ≡ Done) wrote.image told wrote.compiles done
     ]
 
-risen_later : (a b c : ℕ) → a ≤ b → Rose b c → Rose a c
-risen_later a b c h r = omega (arith, r)
-
-no_read_fault : Rose 0 0 → ⊥
-no_read_fault rose = omega (arith, rose)
-
-summed : (middle after : Stream) (text : List ℕ) (status : Status) (before : ℕ) → before ≤ middle.faults → Writes middle after text status → (Rose before after.faults → ⊥) → IsRunAnswer status
-summed middle after text Done before less writes calm = tt
-summed middle after text WriteFault before less writes calm = absurd (calm (risen_later before middle.faults after.faults less writes.1))
-summed middle after text status before less writes calm = absurd writes
-
--- the answer behind a run without input
-made_answer : (ran status : Status) (before middle after : Stream) (text : List ℕ) → before.faults ≤ middle.faults → (ran ≡ ReadFault → ⊥) →
-    (ran ≡ WriteFault → Rose before.faults middle.faults) → (ran ≡ ReadFault) ⊎ ((ran ≡ WriteFault) ⊎ IsRunAnswer ran) →
-    ThenWrites ran middle after text status → (Rose before.faults after.faults → ⊥) → IsRunAnswer status
-made_answer Done status before middle after text less read write answered writes calm = summed middle after text status before.faults less writes calm
-made_answer ran status before middle after text less read write answered same calm =
-    subst IsRunAnswer (sym same.0) (run_answer ran _ _ answered read write (λ none. none) (λ rose. calm (subst (λ s. Rose before.faults s.faults) (sym same.1) rose)))
-
-make_complete : OneRefusal → (seed count steps : ℕ) (before after : Surroundings) (status : Status) (name : List ℕ) →
-    Makes seed count steps before after status name → FailsNowhere before after → IsComplete (made_source seed count) status IsRunAnswer
+make_complete : (seed count steps : ℕ) (before after : Surroundings) (status : Status) → Makes seed count steps before after status → FailsNowhere before after → (status ≡ OutOfMemory) ⊎ (status ≡ Done)
 unfolding Makes
-make_complete one seed count steps before after status name (folder, console, inl refused) calm = by_refusal one (made_source seed count) status name IsRunAnswer refused.0
-make_complete one seed count steps before after status name (folder, console, inr ran) calm =
-    by_certificate (made_source seed count) status IsRunAnswer ran.program ran.certificate ran.certified
-    (made_answer ran.ran status before.out ran.middle after.out _ ran.drives.out_faults (λ e. no_read_fault (ran.drives.read_fault e)) ran.drives.write_fault ran.drives.answered ran.sums_up calm.out)
+make_complete seed count steps before after status (folder, console, inl wanting) calm = inl wanting.0
+make_complete seed count steps before after status (folder, console, inr ran) calm = elim ran.answer [ inl done ↦ inr done | inr failed ↦ absurd (calm.out failed.1) ]
 
 -- ---- each text is judged
 
@@ -306,7 +282,7 @@ complete each sources end least none one files texts same = record {
   bound = bound_complete one;
   eval = eval_complete one;
   build = build_complete one;
-  make = make_complete one;
+  make = make_complete;
   execute = execute_complete files;
   list = list_complete files;
   assemble = assemble_complete texts;

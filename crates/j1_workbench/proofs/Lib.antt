@@ -2,6 +2,7 @@ mod SinkContents
 mod Digits
 mod Drives
 mod FilesRead
+mod Counts
 mod Commands
 mod FileCommands
 mod Makes
@@ -10,3 +11,4 @@ mod Built
 mod Headline
 mod FileCompleteness
 mod Completeness
+mod MadeRuns

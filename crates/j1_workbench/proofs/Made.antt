@@ -1,7 +1,7 @@
 -- The source of `make`, line by line.
 use Rattle.std.proofs.Common.{◌≡◌, ℕ, zero, suc, ◌+◌, ◌-◌, ◌<◌, List, [], ◌∷◌, ◌++◌, refl, ap, sym, ◌∙◌, arith, append_assoc}
 use Rattle.std.specs.Prelude.{codes, decimal}
-use Rattle.j1_workbench.specs.MadeSource.{joined, next_number, definition, definitions, calls}
+use Rattle.made_sources.specs.MadeSource.{joined, next_number, definition, definitions, calls}
 
 one_less : (count done : ℕ) → done < count → count - done ≡ suc (count - (done + 1))
 one_less count done h = omega arith

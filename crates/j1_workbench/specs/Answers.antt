@@ -30,7 +30,7 @@ Does (Some (Assemble listing image)) before after status name = AssemblesFile li
 Does (Some (Certify source)) before after status name = Certifies source before after status name
 Does (Some (Bound source)) before after status name = Bounds source before after status name
 Does (Some (Evaluate source steps)) before after status name = Evaluates source (steps_allowed steps) before after status name
-Does (Some (Make seed count)) before after status name = Makes seed count (steps_allowed None) before after status name
+Does (Some (Make seed count)) before after status name = Makes seed count (steps_allowed None) before after status
 Does (Some request) before after status name = (status ≡ NotYet) × (after ≡ before)
 
 -- the notes gain this line, and the answer stands. Where they can't be written, they gain a beginning of it, and the answer is

@@ -19,7 +19,6 @@ use Rattle.j1_workbench.specs.Building.{Builds}
 use Rattle.j1_workbench.specs.Images.{IsBadImage}
 use Rattle.j1_workbench.specs.Executing.{RunsImage, Executes}
 use Rattle.j1_workbench.specs.ListingImage.{Lists}
-use Rattle.j1_workbench.specs.MadeSource.{made_source}
 use Rattle.j1_workbench.specs.Making.{Makes}
 use Rattle.j1_workbench.specs.Assembling.{IsBadListing, AssemblesFile}
 use Rattle.j1_workbench.specs.Running.{Runs}
@@ -87,9 +86,8 @@ pub record AnswersAreComplete : Type 0 where
   pub assemble : (listing file text : List ℕ) (before after : Surroundings) (status : Status) →
       AssemblesFile listing file before after status → Tells before.folder.files listing text → FailsNowhere before after → (Rose before.folder.write_faults after.folder.write_faults → ⊥) →
       IsCompleteFile 524288 IsBadListing (λ text. (image : Content) × Assembles text image) text status (λ s. s ≡ Done)
-  -- the made source has the answer of a source
-  pub make : (seed count steps : ℕ) (before after : Surroundings) (status : Status) (name : List ℕ) →
-      Makes seed count steps before after status name → FailsNowhere before after → IsComplete (made_source seed count) status IsRunAnswer
+  -- `make` answers Done
+  pub make : (seed count steps : ℕ) (before after : Surroundings) (status : Status) → Makes seed count steps before after status → FailsNowhere before after → (status ≡ OutOfMemory) ⊎ (status ≡ Done)
   -- a file that holds the bytes of an image, as `build` writes them, is run as that image: so `exec` does what `run` does
   pub built : (file : List ℕ) (steps : ℕ) (before after : Surroundings) (status : Status) (image : Content) →
       IsImage image → Tells before.folder.files file (image_bytes image) → RunsImage file steps before after status → Drives image steps before.console after.console before.out after.out status

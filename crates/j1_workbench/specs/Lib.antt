@@ -18,7 +18,7 @@ pub mod Bounding
 pub mod Evaluating
 pub mod ListingImage
 pub mod Assembling
-pub mod MadeSource
+pub mod Summary
 pub mod Making
 pub mod Answers
 pub mod Completeness

@@ -1,6 +1,6 @@
 // The source that `make` writes itself.
 ghost use Rattle.std.specs.Prelude.{◌≡◌, ◌%◌, ◌++◌, ◌∷◌, [], codes, decimal, map, IfOk, OnOk};
-ghost use Rattle.j1_workbench.specs.MadeSource.{joined, next_number, operation, definition, definitions, calls, made_source};
+ghost use Rattle.made_sources.specs.MadeSource.{joined, next_number, operation, definition, definitions, calls, made_source};
 
 use itoa::Buffer;
 use std::alloc::{AllocError, Global};
@@ -83,7 +83,7 @@ fn add_calls(text: &mut Vec<u8>, count: u32) -> Result<(), AllocError>
 }
 
 /// The source of a seed and a count. An error is want of memory.
-#[tactic(auto, unfolding(crate::specs::MadeSource::made_source))]
+#[tactic(auto, unfolding(made_sources::specs::MadeSource::made_source))]
 pub fn made_source(alloc: Global, seed: u32, count: u32) -> Result<Vec<u8>, AllocError>
     ensures { IfOk result (λ text. text.items ≡ made_source seed count) }
 {

@@ -168,7 +168,7 @@ module _ (next : NextIsComputed) (names : NameIsComputed) where
       let light = light_to seed place in
       let first = behind named (32 ∷ (operation (v % 4) ++ (32 ∷ 59 ∷ 10 ∷ more))) in
       let is : sense_in named.entries (base_at named) (decimal v) ≡ number_sense (Value v) =
-          number_is_sense named (decimal v) v (number_not_found v place (below_range seed place) (omega arith)) (number_is_no_word v (below_range seed place)) refl (number_is v (below_range seed place)) in
+      number_is_sense named (decimal v) v (number_not_found v place (below_range seed place) (omega arith)) (number_is_no_word v (below_range seed place)) refl (number_is v (below_range seed place)) in
       defined (suc (suc (suc n))) (source_to seed place rest) at named _ (made_name (place + 1)) (number_body v) (record { sense = sense_in named.entries (base_at named) (decimal v); at = first })
       (colon_is (state_with seed place place rest) (made_name (place + 1) ++ number_text v more) (same ∙ ap (next_from (count_to place)) (line_is (place + 1) v more)))
       (name_is next names at (made_name (place + 1)) (number_text v more) refl (name_token (place + 1) (omega arith)) refl)

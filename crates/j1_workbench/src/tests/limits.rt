@@ -39,6 +39,7 @@ const LIMITS: &str = r#"
 : MAIN_ 1, [_ 1, 7_ 32, HERE_ 1, ]_ 1, ; 1          |        | 3 source token 36: HostOverflow
 _ 65536                                             |        | 3 source token 1: NoMain
 _ 65537                                             |        | 13 source.fs: too large
+A 65536                                             |        | 3 source token 1: NameTooLong
 "#;
 
 /// Appends a text so many times.

@@ -1,6 +1,8 @@
 use Rattle.std.proofs.Common.{rules, refl}
+use Rattle.std.specs.Prelude.{map}
+use Rattle.std.specs.String.{string_bytes}
 use Rattle.j1_workbench.specs.Surroundings.{stream, folder}
-use Rattle.j1_workbench.proofs.Commands.{does_build, does_list, does_assemble, does_certify, does_bound, does_evaluate, does_make, does_not_yet}
+use Rattle.j1_workbench.proofs.Commands.{does_build, does_list, does_assemble, does_certify, does_bound, does_evaluate, does_make}
 use Rattle.j1_workbench.proofs.answering.answer.Goals as goal
 
 pub returns-in-Some-Certify : goal.returns-in-Some-Certify
@@ -33,6 +35,6 @@ returns-in-Some-Evaluate g c = does_evaluate _ c.in-Some-Evaluate.source.now c.i
 
 pub returns-in-Some-Make : goal.returns-in-Some-Make
 returns-in-Some-Make g c =
-    does_make _ c.in-Some-Make.seed c.in-Some-Make.count _ _ _ _ _ (search rules) c.steps_allowed-in-Some-Make.ensures
+    does_make (map string_bytes c.args.words.now) c.in-Some-Make.seed c.in-Some-Make.count _ _ _ _ _ (search rules) c.steps_allowed-in-Some-Make.ensures
     (c.make.ensures (folder (g.F.Folder.files c.args.files.now) (g.F.Folder.calls c.args.files.now) (g.F.Folder.read_faults c.args.files.now) (g.F.Folder.write_faults c.args.files.now) (g.F.Folder.absences c.args.files.now))
     (stream (g.C.Source.left c.args.console.now) (g.C.Source.calls c.args.console.now) (g.C.Source.faults c.args.console.now)))

@@ -1,5 +1,5 @@
 use Rattle.std.proofs.Common.{◌≡◌, ◌++◌, ◌+◌, ◌-◌}
-use Rattle.j1_workbench.specs.MadeSource.{calls}
+use Rattle.made_sources.specs.MadeSource.{calls}
 use Rattle.j1_workbench.proofs.made_source.add_calls.Given as goal
 
 abbrev pub invariant-loop-done : goal.invariant-loop-done

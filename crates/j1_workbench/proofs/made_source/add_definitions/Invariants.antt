@@ -1,5 +1,5 @@
 use Rattle.std.proofs.Common.{◌≡◌, ◌++◌, ◌+◌, ◌-◌}
-use Rattle.j1_workbench.specs.MadeSource.{definitions}
+use Rattle.made_sources.specs.MadeSource.{definitions}
 use Rattle.j1_workbench.proofs.made_source.add_definitions.Given as goal
 
 abbrev pub invariant-loop-done : goal.invariant-loop-done

@@ -1,6 +1,6 @@
 use Rattle.std.proofs.Common.{◌≡◌, ◌++◌, drop, map}
 use Rattle.std.specs.List.{flat_map}
-use Rattle.j1_workbench.specs.MadeSource.{joined}
+use Rattle.made_sources.specs.MadeSource.{joined}
 use Rattle.j1_workbench.proofs.made_source.add_parts.Given as goal
 
 abbrev pub invariant-loop-part : goal.invariant-loop-part
