@@ -18,7 +18,7 @@ use Rattle.step_certifier.specs.Law.{EndsOnChip}
 use Rattle.j1_workbench.specs.declared.status.Status.{Status}
 use Rattle.j1_workbench.specs.declared.status.Status.TheVariants.{BadWords, OutOfMemory, NotYet, BoundRefused}
 use Rattle.j1_workbench.specs.declared.answer.Answer.{Answer}
-use Rattle.j1_workbench.specs.Words.{Request, Run, Build, Execute, ListImage, Assemble, Certify, Evaluate, Forth, Make, Bound, request_of, steps_allowed}
+use Rattle.j1_workbench.specs.Words.{Request, Run, Build, Execute, ListImage, Assemble, Certify, Evaluate, Forth, Make, Bound, Net, request_of, steps_allowed}
 use Rattle.j1_workbench.specs.Notes.{named}
 use Rattle.j1_workbench.specs.Surroundings.{FolderState, Surroundings, IsOnlyRead}
 use Rattle.j1_workbench.specs.Sources.{HasCertificate, IsRefusedSource, IsCertifiedSource}
@@ -33,6 +33,7 @@ use Rattle.j1_workbench.specs.Assembling.{AssemblesFile}
 use Rattle.j1_workbench.specs.Making.{Makes}
 use Rattle.j1_workbench.specs.Certifying.{Writes, Certifies}
 use Rattle.j1_workbench.specs.Bounding.{Bounds}
+use Rattle.j1_workbench.specs.Networking.{Nets}
 use Rattle.j1_workbench.specs.Evaluating.{IsReading, IsReadSource, Evaluates, status_after as status_of_eval}
 use Rattle.reference_eval.specs.declared.ends.EvalFinish.{EvalFinish}
 use Rattle.reference_eval.specs.declared.ends.EvalError.{EvalError}
@@ -202,6 +203,11 @@ pub does_bound : (request : Option Request) (source : List ℕ) (before after : 
     request ≡ Some (Bound source) → Bounds source before after status name → Does request before after status name
 unfolding Does
 does_bound request source before after status name asked bounds = subst (λ r. Does r before after status name) (sym asked) bounds
+
+pub does_net : (request : Option Request) (file : List ℕ) (before after : Surroundings) (status : Status) (name : List ℕ) →
+    request ≡ Some (Net file) → Nets file before after status name → Does request before after status name
+unfolding Does
+does_net request file before after status name asked nets = subst (λ r. Does r before after status name) (sym asked) nets
 
 pub does_evaluate : (request : Option Request) (source : List ℕ) (steps : Option ℕ) (allowed : ℕ) (before after : Surroundings) (status : Status) (name : List ℕ) →
     request ≡ Some (Evaluate source steps) → allowed ≡ steps_allowed steps → Evaluates source allowed before after status name → Does request before after status name

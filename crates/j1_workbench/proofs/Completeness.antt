@@ -39,7 +39,7 @@ use Rattle.reference_eval.specs.declared.ends.EvalError.{EvalError}
 use Rattle.reference_eval.specs.declared.ends.EvalError.TheVariants as error
 use Rattle.j1_workbench.specs.Statuses.{halted_status}
 use Rattle.j1_workbench.specs.Evaluating.{IsReadText, IsReading, IsEvaluationAnswer, Evaluates, status_after as status_of_eval}
-use Rattle.j1_workbench.specs.Completeness.{Tells, FailsNowhere, IsComplete, IsEvaluated, IsBoundAnswer, IsAnswerOfText, IsJudged, AnswersAreComplete}
+use Rattle.j1_workbench.specs.Completeness.{Tells, FailsNowhere, IsComplete, IsEvaluated, IsBoundAnswer, IsAnswerOfText, IsJudged, NetsAreComplete, AnswersAreComplete}
 
 -- ---- a text has one outcome
 
@@ -61,7 +61,7 @@ by_kind P text (NotCertified id cause) name refused long faulty uncertified unbu
 by_kind P text NotYet name refused long faulty uncertified unbuilt = unbuilt refused.0 refused.1
 by_kind P text status name refused long faulty uncertified unbuilt = absurd refused
 
-refused_not_certified : (text : List ℕ) (status : Status) (name : List ℕ) (p : SourceProgram) (z : Cert) → IsRefusedText text status name → HasCertificate text p z → ⊥
+pub refused_not_certified : (text : List ℕ) (status : Status) (name : List ℕ) (p : SourceProgram) (z : Cert) → IsRefusedText text status name → HasCertificate text p z → ⊥
 refused_not_certified text status name p z refused c =
     by_kind (λ s. ⊥) text status name refused
     (λ long. clash text long c.short)
@@ -88,7 +88,7 @@ same_definition p id other cause reason one first second =
     cc
 
 -- a text has one refusal at most
-one_refusal : OneRefusal → (text : List ℕ) (status other : Status) (name called : List ℕ) → IsRefusedText text status name → IsRefusedText text other called → status ≡ other
+pub one_refusal : OneRefusal → (text : List ℕ) (status other : Status) (name called : List ℕ) → IsRefusedText text status name → IsRefusedText text other called → status ≡ other
 one_refusal one text status other name called first second =
     by_kind (λ s. s ≡ other) text status name first
     (λ long. by_kind (λ s. TooLarge ≡ s) text other called second (λ again. refl) (λ r short e. clash text long short) (λ id cause u. clash text long u.short) (λ short e. clash text long short))
@@ -107,7 +107,7 @@ refused_text : (source text : List ℕ) (before : FolderState) (status : Status)
     (other : List ℕ) × HoldsFile before.files source other × IsRefusedText other status name → (status ≡ OutOfMemory) ⊎ IsRefusedText text status name
 refused_text source text before status name told found = inr (subst (λ t. IsRefusedText t status name) (told_text before.files source text found.0 told found.1) found.2)
 
-refused_source : (source text : List ℕ) (before after : FolderState) (status : Status) (name : List ℕ) → Tells before.files source text → (Rose before.read_faults after.read_faults → ⊥) →
+pub refused_source : (source text : List ℕ) (before after : FolderState) (status : Status) (name : List ℕ) → Tells before.files source text → (Rose before.read_faults after.read_faults → ⊥) →
     IsRefusedSource source before after status name → (status ≡ OutOfMemory) ⊎ IsRefusedText text status name
 refused_source source text before after Missing name told calm refused = absurd (not_missing before.files source text told refused.1)
 refused_source source text before after ReadFault name told calm refused = absurd (calm refused)
@@ -274,13 +274,14 @@ eval_complete one source text steps before after status name (read, inr ran) tol
     (subst (λ t. IsReadText t ran.program) (told_text before.folder.files source text ran.source_is.0 told ran.source_is.1) ran.source_is.2)
     (subst (λ s. (s ≡ OutOfMemory) ⊎ IsEvaluationAnswer s) (sym ran.status_is) (eval_answer ran.result _ _ ran.evaluates.read_cause ran.evaluates.write_cause calm.console calm.out))
 
-pub complete : EachIsJudged → EachProgramIsSource → RoundsEnd → RoundsFindTheLeast → RefusedHaveNone → OneRefusal → ImageFileLaws → TextLaws → FilesAreImages → AnswersAreComplete
-complete each sources end least none one files texts same = record {
+pub complete : EachIsJudged → EachProgramIsSource → RoundsEnd → RoundsFindTheLeast → RefusedHaveNone → OneRefusal → ImageFileLaws → TextLaws → FilesAreImages → NetsAreComplete → AnswersAreComplete
+complete each sources end least none one files texts same nets = record {
   each = judged each sources end least none;
   run = run_complete one;
   certify = certify_complete one;
   bound = bound_complete one;
   eval = eval_complete one;
+  net = nets;
   build = build_complete one;
   make = make_complete;
   execute = execute_complete files;

@@ -58,7 +58,7 @@ unread_file most IsBad name content before after TooLarge told calm unread = inr
 unread_file most IsBad name content before after status told calm unread = absurd unread
 
 -- what refuses a file that is told
-refused_file : (most : ℕ) (IsBad : List ℕ → Status → Type 0) (name content : List ℕ) (before after : FolderState) (status : Status) → Tells before.files name content → (Rose before.read_faults after.read_faults → ⊥) →
+pub refused_file : (most : ℕ) (IsBad : List ℕ → Status → Type 0) (name content : List ℕ) (before after : FolderState) (status : Status) → Tells before.files name content → (Rose before.read_faults after.read_faults → ⊥) →
     IsRefusedFile most IsBad name before after status → (status ≡ OutOfMemory) ⊎ (((status ≡ TooLarge) × (most < length content)) ⊎ ((length content ≤ most) × IsBad content status))
 refused_file most IsBad name content before after status told calm (inl unread) = unread_file most IsBad name content before after status told calm unread
 refused_file most IsBad name content before after status told calm (inr found) =
@@ -66,12 +66,12 @@ refused_file most IsBad name content before after status told calm (inr found) =
     inr (inr (subst (λ c. length c ≤ most) same found.1.short, subst (λ c. IsBad c status) same found.2))
 
 -- a bad content has one refusal, and no good content is bad
-record AreApart (IsBad : List ℕ → Status → Type 0) (IsGood : List ℕ → Type 0) : Type 0 where
+pub record AreApart (IsBad : List ℕ → Status → Type 0) (IsGood : List ℕ → Type 0) : Type 0 where
   pub one : (content : List ℕ) (status other : Status) → IsBad content status → IsBad content other → status ≡ other
   pub bad : (content : List ℕ) (status : Status) → IsBad content status → IsGood content → ⊥
 
 module _ (most : ℕ) (IsBad : List ℕ → Status → Type 0) (IsGood : List ℕ → Type 0) (apart : AreApart IsBad IsGood) (content : List ℕ) (status : Status) (IsAnswer : Status → Type 0) where
-  by_refusal : (status ≡ OutOfMemory) ⊎ (((status ≡ TooLarge) × (most < length content)) ⊎ ((length content ≤ most) × IsBad content status)) → IsCompleteFile most IsBad IsGood content status IsAnswer
+  pub by_refusal : (status ≡ OutOfMemory) ⊎ (((status ≡ TooLarge) × (most < length content)) ⊎ ((length content ≤ most) × IsBad content status)) → IsCompleteFile most IsBad IsGood content status IsAnswer
   by_refusal (inl wanting) = record { too_large = λ long. inl wanting; refused = λ refusal short bad. inl wanting; good = λ short good. inl wanting }
   by_refusal (inr (inl large)) = record { too_large = λ long. inr large.0; refused = λ refusal short bad. absurd (omega (arith, large.1)); good = λ short good. absurd (omega (arith, large.1)) }
   by_refusal (inr (inr found)) = record {

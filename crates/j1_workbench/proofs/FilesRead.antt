@@ -1,7 +1,8 @@
 -- Files that are read from a folder.
 use Rattle.std.proofs.Common.{◌≡◌, ◌⊎◌, inl, inr, ℕ, ◌+◌, ◌<◌, ◌≤◌, List, length, take, refl, sym, ap, ◌∙◌, subst, arith, length-take}
 use Rattle.std.proofs.lemmas.List.{take_all}
-use Rattle.std.specs.Prelude.{◌↔◌, [], Option, Some, None, option_map, slice_index_or, IsSome, IfSome, Result, Ok, Err, MatchResult}
+use Rattle.std.specs.Prelude.{[], nat_le, if◌then◌else◌, Option, Some, None, option_map, slice_index_or, Result, Ok, Err, MatchResult}
+use Rattle.std.proofs.lemmas.Bool.{le-leb}
 use Rattle.outside_io.specs.Files.{Files, HasFront}
 use Rattle.forth_program.specs.Program.{SourceProgram}
 use Rattle.forth_reader.specs.Name.{IsName}
@@ -79,27 +80,26 @@ pub unread_reading : (source : List ℕ) (before after : FolderState) (status : 
 unread_reading source before after (NotCertified id cause) unread = absurd unread
 unread_reading source before after status unread = tt
 
-no_name : IsSome {T = List ℕ} None → ⊥
-no_name some = cc
+-- a text of at most 255 bytes is named
+pub short_named : (name : Option (List ℕ)) (told : List ℕ) → named name ≡ (if nat_le (length told) 255 then told else []) → length told ≤ 255 → named name ≡ told
+short_named name told value short = value ∙ ap (λ g. if g then told else []) (le-leb (length told) 255 short)
 
--- a definition is named, since its name has the form of a name
-pub definition_named : (name : Option (List ℕ)) (told : List ℕ) → (IsSome name ↔ IsName told) → IfSome name (λ n. n ≡ told) → IsName told → named name ≡ told
-definition_named None told form value is = absurd (no_name (form.1 is))
-definition_named (Some n) told form value is = value
+-- so a definition is named, since its name has the form of a name
+pub definition_named : (name : Option (List ℕ)) (told : List ℕ) → named name ≡ (if nat_le (length told) 255 then told else []) → IsName told → named name ≡ told
+definition_named name told value is = short_named name told value (omega (arith, is.short))
 
 -- so is one that is refused
 pub uncertified_text : (text : List ℕ) (program : SourceProgram) (error : CertError) (id : DefId) (cause : CertCause) (name : Option (List ℕ)) (told : List ℕ) →
     length text ≤ 65536 → program_of_text text ≡ Fine program → error ≡ NoCertificate id cause → IsRefusal error (λ r. RoundsRefuse program r) → IsRefusal error (λ r. (z : Cert) → IsValid program z → ⊥) →
-    told ≡ slice_index_or program.names id.0 [] → (IsSome name ↔ IsName told) → IfSome name (λ n. n ≡ told) → IsName told →
+    told ≡ slice_index_or program.names id.0 [] → named name ≡ (if nat_le (length told) 255 then told else []) → IsName told →
     IsUncertified text id.0 cause (named name)
-uncertified_text text program error id cause None told short is known refused none same form value name = absurd (no_name (form.1 name))
-uncertified_text text program error id cause (Some n) told short is known refused none same form value name = record {
+uncertified_text text program error id cause name told short is known refused none same value form = record {
   program = program;
   short = short;
   program_is = is;
   refusal = subst (λ e. IsRefusal e (λ r. RoundsRefuse program r)) known refused;
   none = subst (λ e. IsRefusal e (λ r. (z : Cert) → IsValid program z → ⊥)) known none;
-  name_is = value ∙ same;
+  name_is = definition_named name told value form ∙ same;
 }
 
 -- what holds of a result of either kind

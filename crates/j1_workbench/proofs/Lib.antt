@@ -1,10 +1,10 @@
 mod SinkContents
-mod Digits
 mod Drives
 mod FilesRead
 mod Counts
 mod Commands
 mod FileCommands
+mod NetCommand
 mod Makes
 mod Made
 mod Built
@@ -12,3 +12,4 @@ mod Headline
 mod FileCompleteness
 mod Completeness
 mod MadeRuns
+mod NetCompleteness

@@ -5,7 +5,7 @@ use Rattle.outside_io.specs.Bytes.{AppendsFront}
 use Rattle.outside_io.specs.Causes.{Rose}
 use Rattle.j1_workbench.specs.declared.status.Status.{Status}
 use Rattle.j1_workbench.specs.declared.status.Status.TheVariants.{Done, BadWords, WriteFault, NotYet}
-use Rattle.j1_workbench.specs.Words.{Request, Run, Build, Execute, ListImage, Assemble, Certify, Bound, Evaluate, Make, request_of, steps_allowed}
+use Rattle.j1_workbench.specs.Words.{Request, Run, Build, Execute, ListImage, Assemble, Certify, Bound, Net, Evaluate, Make, request_of, steps_allowed}
 use Rattle.j1_workbench.specs.Notes.{note_of}
 use Rattle.j1_workbench.specs.Surroundings.{Stream, Surroundings}
 use Rattle.j1_workbench.specs.Running.{Runs}
@@ -15,10 +15,11 @@ use Rattle.j1_workbench.specs.ListingImage.{Lists}
 use Rattle.j1_workbench.specs.Assembling.{AssemblesFile}
 use Rattle.j1_workbench.specs.Certifying.{Certifies}
 use Rattle.j1_workbench.specs.Bounding.{Bounds}
+use Rattle.j1_workbench.specs.Networking.{Nets}
 use Rattle.j1_workbench.specs.Evaluating.{Evaluates}
 use Rattle.j1_workbench.specs.Making.{Makes}
 
--- what each command does and answers, its note aside, which may name a definition. Words without the form of a command, and commands
+-- what each command does and answers, its note aside, which may name a definition or a file. Words without the form of a command, and commands
 -- that are not built, leave everything as it was
 unfoldable pub Does : Option Request → Surroundings → Surroundings → Status → List ℕ → Type 0
 Does None before after status name = (status ≡ BadWords) × (after ≡ before)
@@ -29,6 +30,7 @@ Does (Some (ListImage image)) before after status name = Lists image before afte
 Does (Some (Assemble listing image)) before after status name = AssemblesFile listing image before after status
 Does (Some (Certify source)) before after status name = Certifies source before after status name
 Does (Some (Bound source)) before after status name = Bounds source before after status name
+Does (Some (Net file)) before after status name = Nets file before after status name
 Does (Some (Evaluate source steps)) before after status name = Evaluates source (steps_allowed steps) before after status name
 Does (Some (Make seed count)) before after status name = Makes seed count (steps_allowed None) before after status
 Does (Some request) before after status name = (status ≡ NotYet) × (after ≡ before)

@@ -1,7 +1,7 @@
 -- Commands of the program, as what is asked for.
 use Rattle.j1_workbench.specs.declared.words.Command.{Command}
 use Rattle.j1_workbench.specs.declared.words.Command.TheVariants as command
-use Rattle.j1_workbench.specs.Words.{Request, Run, Build, Execute, ListImage, Assemble, Certify, Evaluate, Forth, Make, Bound}
+use Rattle.j1_workbench.specs.Words.{Request, Run, Build, Execute, ListImage, Assemble, Certify, Evaluate, Forth, Make, Bound, Net}
 
 abbrev pub requested : Command → Request
 requested (command.Run source steps) = Run source.now steps
@@ -14,3 +14,4 @@ requested (command.Evaluate source steps) = Evaluate source.now steps
 requested (command.Forth steps) = Forth steps
 requested (command.Make seed count) = Make seed count
 requested (command.Bound source) = Bound source.now
+requested (command.Net file) = Net file.now

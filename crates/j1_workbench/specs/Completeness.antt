@@ -1,5 +1,5 @@
 -- What is left where nothing outside fails: each source has its one answer.
-use Rattle.std.specs.Prelude.{◌≡◌, ◌<◌, ◌≤◌, ◌⊎◌, ℕ, List, length, Option, None, Some}
+use Rattle.std.specs.Prelude.{◌≡◌, ◌<◌, ◌≤◌, ◌⊎◌, ℕ, List, [], ◌∷◌, length, map, Option, None, Some}
 use Rattle.outside_io.specs.Causes.{Rose}
 use Rattle.outside_io.specs.Files.{Files}
 use Rattle.forth_program.specs.Program.{SourceProgram}
@@ -8,7 +8,7 @@ use Rattle.control_flow.specs.SourceText.{program_of_text}
 use Rattle.depth_certifier.specs.Certificate.{Cert}
 use Rattle.j1_workbench.specs.declared.status.Status.{Status}
 use Rattle.step_certifier.specs.Bound.{Bounded, Refused, step_bound}
-use Rattle.j1_workbench.specs.declared.status.Status.TheVariants.{Done, OutOfMemory, TooLarge, BoundRefused}
+use Rattle.j1_workbench.specs.declared.status.Status.TheVariants.{Done, OutOfMemory, TooLarge, BoundRefused, BadNet}
 use Rattle.j1_workbench.specs.Surroundings.{Surroundings}
 use Rattle.j1_workbench.specs.Sources.{HasCertificate, IsRefusedText}
 use Rattle.j1_table.specs.Image.{Content}
@@ -24,6 +24,10 @@ use Rattle.j1_workbench.specs.Assembling.{IsBadListing, AssemblesFile}
 use Rattle.j1_workbench.specs.Running.{Runs}
 use Rattle.j1_workbench.specs.Certifying.{Certifies}
 use Rattle.j1_workbench.specs.Bounding.{Bounds}
+use Rattle.net_file.specs.Net.{NetPlan, IsNetText}
+use Rattle.net_file.specs.FirstBad.{IsFirstBadLine}
+use Rattle.j1_workbench.specs.Headline.{image_of}
+use Rattle.j1_workbench.specs.Networking.{net_status, Nets}
 use Rattle.j1_workbench.specs.Evaluating.{IsReadText, IsReading, IsEvaluationAnswer, Evaluates}
 
 -- the folder tells its files, and this one has this text
@@ -62,6 +66,33 @@ pub record IsCompleteFile (most : ℕ) (IsBad : List ℕ → Status → Type 0) 
   pub refused : (refusal : Status) → length content ≤ most → IsBad content refusal → (status ≡ OutOfMemory) ⊎ (status ≡ refusal)
   pub good : length content ≤ most → IsGood content → (status ≡ OutOfMemory) ⊎ IsAnswer status
 
+-- the folder tells the source files of cores, each with a certificate, and these are their programs
+abbrev pub AllCertified : Option Files → List (List ℕ) → List SourceProgram → Type 0
+AllCertified files [] programs = programs ≡ []
+AllCertified files (source ∷ sources) programs =
+    (text : List ℕ) × (program : SourceProgram) × (certificate : Cert) × (others : List SourceProgram)
+    × (programs ≡ program ∷ others) × Tells files source text × HasCertificate text program certificate × AllCertified files sources others
+
+-- it tells that of one core, which is refused so, and those of the cores before it, which have certificates
+abbrev pub IsFirstRefused : Option Files → List (List ℕ) → Status → Type 0
+IsFirstRefused files [] refusal = ⊥
+IsFirstRefused files (source ∷ sources) refusal =
+    ((text : List ℕ) × (name : List ℕ) × Tells files source text × IsRefusedText text refusal name)
+    ⊎ ((text : List ℕ) × (program : SourceProgram) × (certificate : Cert) × Tells files source text × HasCertificate text program certificate × IsFirstRefused files sources refusal)
+
+-- memory was wanting; or a net file is too large or no net file, or a source of its cores is refused, or they are run
+pub record IsCompleteNet (files : Option Files) (text : List ℕ) (status : Status) : Type 0 where
+  pub too_large : 65536 < length text → (status ≡ OutOfMemory) ⊎ (status ≡ TooLarge)
+  pub bad : (line : ℕ) → length text ≤ 65536 → IsFirstBadLine text line → (status ≡ OutOfMemory) ⊎ (status ≡ BadNet line)
+  pub refused : (net : NetPlan) (refusal : Status) → length text ≤ 65536 → IsNetText text net → IsFirstRefused files net.cores refusal → (status ≡ OutOfMemory) ⊎ (status ≡ refusal)
+  pub run : (net : NetPlan) (programs : List SourceProgram) → length text ≤ 65536 → IsNetText text net → AllCertified files net.cores programs →
+      (status ≡ OutOfMemory) ⊎ (status ≡ net_status net (map image_of programs))
+
+-- `net` gives the one answer of its file and of the sources of the cores
+abbrev pub NetsAreComplete : Type 0
+NetsAreComplete = (file text : List ℕ) (before after : Surroundings) (status : Status) (name : List ℕ) →
+    Nets file before after status name → Tells before.folder.files file text → FailsNowhere before after → IsCompleteNet before.folder.files text status
+
 -- a text is refused, or certified
 abbrev pub IsJudged : List ℕ → Type 0
 IsJudged text = ((refusal : Status) × (name : List ℕ) × IsRefusedText text refusal name) ⊎ ((program : SourceProgram) × (certificate : Cert) × HasCertificate text program certificate)
@@ -76,6 +107,7 @@ pub record AnswersAreComplete : Type 0 where
       Bounds source before after status name → Tells before.folder.files source text → FailsNowhere before after → IsComplete text status (IsAnswerOfText text)
   pub eval : (source text : List ℕ) (steps : ℕ) (before after : Surroundings) (status : Status) (name : List ℕ) →
       Evaluates source steps before after status name → Tells before.folder.files source text → FailsNowhere before after → IsEvaluated text status
+  pub net : NetsAreComplete
   -- where the write of the folder did not fail either
   pub build : (source file text : List ℕ) (before after : Surroundings) (status : Status) (name : List ℕ) →
       Builds source file before after status name → Tells before.folder.files source text → FailsNowhere before after → (Rose before.folder.write_faults after.folder.write_faults → ⊥) → IsComplete text status (λ s. s ≡ Done)

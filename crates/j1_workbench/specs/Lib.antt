@@ -1,4 +1,3 @@
-pub mod Numbers
 pub mod Words
 pub mod Commands
 pub mod Statuses
@@ -15,6 +14,7 @@ pub mod Images
 pub mod Executing
 pub mod Certifying
 pub mod Bounding
+pub mod Networking
 pub mod Evaluating
 pub mod ListingImage
 pub mod Assembling

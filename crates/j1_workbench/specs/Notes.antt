@@ -1,5 +1,6 @@
 -- The line that a status other than Done leaves in the notes.
-use Rattle.std.specs.Prelude.{ℕ, List, [], ◌∷◌, ◌++◌, Option, Some, None, codes, decimal}
+use Rattle.std.specs.Prelude.{ℕ, Bool, false, if◌then◌else◌, List, [], ◌∷◌, ◌++◌, Option, Some, None, codes, decimal}
+use Rattle.std.specs.Str.{bytes_eq}
 use Rattle.control_flow.specs.declared.refusal.SourceCause.{SourceCause}
 use Rattle.control_flow.specs.declared.refusal.SourceCause.TheVariants as cause
 use Rattle.depth_certifier.specs.declared.effect.CertCause.{CertCause}
@@ -8,13 +9,26 @@ use Rattle.step_certifier.specs.declared.bound.BoundCause.{BoundCause}
 use Rattle.step_certifier.specs.declared.bound.BoundCause.TheVariants as bound
 use Rattle.j1_workbench.specs.declared.status.Status.{Status}
 use Rattle.j1_workbench.specs.declared.status.Status.TheVariants.{Done, BadWords, Missing, SourceRefused, NotCertified, StepsUsed, InputEnded, Outside, Halted}
-use Rattle.j1_workbench.specs.declared.status.Status.TheVariants.{ReadFault, WriteFault, OutOfMemory, TooLarge, Underflow, Unbalanced, NotYet, BadImage, BadListing, BoundRefused}
+use Rattle.j1_workbench.specs.declared.status.Status.TheVariants.{ReadFault, WriteFault, OutOfMemory, TooLarge, Underflow, Unbalanced, NotYet, BadImage, BadListing, BoundRefused, BadNet}
 
 -- the file that is read: the word behind the command
 abbrev pub file_named : List (List ℕ) → List ℕ
 file_named [] = []
 file_named (command ∷ []) = []
 file_named (command ∷ name ∷ words) = name
+
+-- the words call `net`, which reads more files than the one that is named
+abbrev pub calls_net : List (List ℕ) → Bool
+calls_net [] = false
+calls_net (command ∷ words) = bytes_eq command (codes "net")
+
+abbrev pub or_file : List ℕ → List ℕ → List ℕ
+or_file [] file = file
+or_file (byte ∷ bytes) file = byte ∷ bytes
+
+-- the file that a note names: with `net` the one that the answer names, if it names one
+abbrev pub noted_file : List (List ℕ) → List ℕ → List ℕ
+noted_file words name = if calls_net words then or_file name (file_named words) else file_named words
 
 -- parts one behind the other, and a line feed
 abbrev pub ended : List (List ℕ) → List ℕ
@@ -60,16 +74,16 @@ unbounded bound.Recursion = codes ": no bound: Recursion"
 unbounded bound.Execute = codes ": no bound: Execute"
 unbounded bound.TooLarge = codes ": no bound: TooLarge"
 
--- the definition that an answer names, or no bytes
+-- what an answer names, or no bytes
 abbrev pub named : Option (List ℕ) → List ℕ
 named None = []
 named (Some name) = name
 
--- the line of an answer, which may name a definition
+-- the line of an answer, which may name a definition or a file
 abbrev pub note_of : List (List ℕ) → Status → List ℕ → List ℕ
 note_of words Done name = []
 note_of words BadWords name = line (codes "bad words" ∷ [])
-note_of words Missing name = line (file_named words ∷ codes ": missing" ∷ [])
+note_of words Missing name = line (noted_file words name ∷ codes ": missing" ∷ [])
 note_of words (SourceRefused refusal) name = line (codes "source token " ∷ decimal refusal.token ∷ codes ": " ∷ cause_named refusal.cause ∷ [])
 note_of words (NotCertified id cause) name = line (name ∷ uncertified cause ∷ [])
 note_of words (BadImage offset) name = line (codes "image byte " ∷ decimal offset ∷ [])
@@ -81,8 +95,9 @@ note_of words (Halted status) name = line (codes "halted " ∷ decimal status �
 note_of words ReadFault name = line (codes "read fault" ∷ [])
 note_of words WriteFault name = line (codes "write fault" ∷ [])
 note_of words OutOfMemory name = line (codes "out of memory" ∷ [])
-note_of words TooLarge name = line (file_named words ∷ codes ": too large" ∷ [])
+note_of words TooLarge name = line (noted_file words name ∷ codes ": too large" ∷ [])
 note_of words Underflow name = line (codes "underflow" ∷ [])
 note_of words Unbalanced name = line (codes "unbalanced" ∷ [])
 note_of words NotYet name = line (codes "not yet" ∷ [])
 note_of words (BoundRefused id cause) name = line (name ∷ unbounded cause ∷ [])
+note_of words (BadNet number) name = line (codes "net line " ∷ decimal number ∷ [])

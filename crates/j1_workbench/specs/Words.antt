@@ -2,7 +2,8 @@
 use Rattle.std.specs.Prelude.{ℕ, List, [], ◌∷◌, length, Bool, ◌&&◌, ◌==◌, not, nat_lt, false, if◌then◌else◌, Option, Some, None, option_map, map, codes, String}
 use Rattle.std.specs.Str.{bytes_eq}
 use Rattle.std.specs.String.{string_bytes}
-use Rattle.j1_workbench.specs.Numbers.{number_in}
+use Rattle.net_file.specs.Numbers.{number_in}
+use Rattle.net_file.specs.Net.{is_file_name}
 
 -- a command, with the names of its files and its numbers; None are steps that are not given
 pub data Request : Type 0 where
@@ -16,11 +17,7 @@ pub data Request : Type 0 where
   Forth : (steps : Option ℕ) → Request
   Make : (seed count : ℕ) → Request
   Bound : (source : List ℕ) → Request
-
--- a file's name has 1 to 255 bytes, of which the first is no `-`
-abbrev pub is_file_name : List ℕ → Bool
-is_file_name [] = false
-is_file_name (first ∷ rest) = not (first == 45) && nat_lt (length rest) 255
+  Net : (file : List ℕ) → Request
 
 -- no more words, or `--steps` and a number of at most most
 abbrev pub steps_of : ℕ → List (List ℕ) → Option (Option ℕ)
@@ -65,6 +62,7 @@ request_for command words =
     else if bytes_eq command (codes "forth") then option_map (λ steps. Forth steps) (steps_of 1000000000 words)
     else if bytes_eq command (codes "make") then make_of words
     else if bytes_eq command (codes "bound") then one_name Bound words
+    else if bytes_eq command (codes "net") then one_name Net words
     else None
 
 -- what these words ask for, where they have the form of a command

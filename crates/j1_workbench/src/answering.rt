@@ -14,6 +14,7 @@ use crate::evaluating::evaluate_source;
 use crate::executing::execute;
 use crate::listing_image::list;
 use crate::making::make;
+use crate::networking::net;
 use crate::running::run;
 use crate::status::Status;
 use crate::words::{Command, command_of};
@@ -53,6 +54,7 @@ pub fn answer<F: Folder, C: Source, O: Sink>(
         }
         Some(Command::Certify { source }) => certify(alloc, source, files, out),
         Some(Command::Bound { source }) => bound(alloc, source, files, out),
+        Some(Command::Net { file }) => net(alloc, file, files, out),
         Some(Command::Build { source, image }) => build(alloc, source, image, files),
         Some(Command::Execute { image, steps }) => {
             let steps = steps_allowed(steps);

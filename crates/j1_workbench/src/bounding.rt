@@ -5,14 +5,13 @@ ghost use Rattle.j1_workbench.specs.Surroundings.{Stream, folder, stream, surrou
 ghost use Rattle.j1_workbench.specs.Certifying.{Writes};
 ghost use Rattle.j1_workbench.specs.Bounding.{Bounds};
 
-use crate::answer::{Answer, answered};
+use crate::answer::{Answer, Subject, answered};
 use crate::laws::texts_are_built;
 use crate::notes::write_parts;
 use crate::source::certified_source;
 use crate::status::Status;
 use control_flow::programs_are_sources;
 use forth_library::linked_image;
-use forth_program::Name;
 use itoa::Buffer;
 use outside_io::{Failed, Folder, Sink};
 use std::alloc::{AllocError, Global};
@@ -54,7 +53,7 @@ pub fn bound<F: Folder, O: Sink>(alloc: Global, source: &str, files: &mut F, out
         Err(BoundError::Refused(id, cause)) => {
             Answer {
                 status: Status::BoundRefused(id, cause),
-                name: Name::new(program.name(id)),
+                name: Subject::new(program.name(id)),
             }
         }
         Err(BoundError::OutOfMemory) => answered(Status::OutOfMemory),

@@ -10,8 +10,8 @@ use j1_table::Image;
 use outside_io::{Sink, Source};
 use std::alloc::{AllocError, Global};
 
-// The status of a run that ended.
-fn status_of(end: End) -> Status
+/// The status of a run that ended.
+pub fn status_of(end: End) -> Status
     ensures { result ≡ status_of (Some end) }
 {
     match end {

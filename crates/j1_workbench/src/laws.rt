@@ -9,6 +9,7 @@ use depth_certifier::rounds_judge;
 use forth_library::library_means;
 use image_file::{bytes_have_one_first_bad, files_are_images, refused_is_no_file};
 use j1_assembler::{assembles_by_grammar, refuses_first_bad};
+use net_file::{refuses_first_bad_line, tells_net};
 
 /// The program of each text can be laid out.
 pub fn texts_are_built()
@@ -34,7 +35,7 @@ pub fn certified_texts_agree()
 }
 
 /// Each file has its one answer, want of memory aside: where the folder tells it, and no read and no write failed, `run` and `exec`
-/// answer by the run of the image, and `build`, `list`, `asm` and `certify` answer Done, or the call gives the one refusal that the
+/// answer by the run of the image, `build`, `list`, `asm` and `certify` answer Done, `net` answers by the run of its cores, or the call gives the one refusal that the
 /// file has.
 pub fn answers_are_complete()
     ensures { AnswersAreComplete }
@@ -47,4 +48,6 @@ pub fn answers_are_complete()
     bytes_have_one_first_bad();
     assembles_by_grammar();
     refuses_first_bad();
+    tells_net();
+    refuses_first_bad_line();
 }

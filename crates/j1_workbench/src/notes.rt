@@ -3,13 +3,12 @@ ghost use Rattle.std.specs.Prelude.{◌≡◌, ◌∷◌, [], IsOk, map, string_
 ghost use Rattle.outside_io.specs.Causes.{HasCause};
 ghost use Rattle.outside_io.specs.Bytes.{WritesAll};
 ghost use Rattle.j1_workbench.specs.Surroundings.{stream};
-ghost use Rattle.j1_workbench.specs.Notes.{file_named, ended, line, cause_named, uncertified, unbounded, named, note_of};
+ghost use Rattle.j1_workbench.specs.Notes.{file_named, calls_net, noted_file, ended, line, cause_named, uncertified, unbounded, named, note_of};
 
-use crate::answer::named;
+use crate::answer::{Subject, named};
 use crate::status::Status;
 use control_flow::SourceCause;
 use depth_certifier::CertCause;
-use forth_program::Name;
 use itoa::Buffer;
 use outside_io::{Failed, Sink};
 use step_certifier::BoundCause;
@@ -46,6 +45,28 @@ fn file_named(words: &[String]) -> &str
     }
 }
 
+// Whether the words call `net`, which reads more files than the one that is named.
+fn calls_net(words: &[String]) -> bool
+    ensures { result ≡ calls_net (map string_bytes words.now) }
+{
+    match words {
+        [] => false,
+        [command, ..] => command.as_str() == "net",
+    }
+}
+
+// The file that a note names: with `net` the one that the answer names, if it names one.
+fn noted_file<'a>(words: &'a [String], name: &'a Option<Subject>) -> &'a str
+    ensures { result.now ≡ noted_file (map string_bytes words.now) (named name.now) }
+{
+    let called = named(name);
+    if calls_net(words) && !called.is_empty() {
+        called
+    } else {
+        file_named(words)
+    }
+}
+
 fn cause_named(cause: SourceCause) -> &'static [u8]
     ensures { result.now ≡ cause_named cause }
 {
@@ -75,7 +96,7 @@ fn cause_named(cause: SourceCause) -> &'static [u8]
 // The line of a definition without a certificate.
 fn write_uncertified<N: Sink>(
     notes: &mut N,
-    name: &Option<Name>,
+    name: &Option<Subject>,
     cause: CertCause,
 ) -> Result<(), Failed>
     ensures bytes { WritesAll (N.held notes.old) (N.held notes.new) result (line (named name.now ∷ uncertified cause ∷ [])) }
@@ -97,7 +118,7 @@ fn write_uncertified<N: Sink>(
 // The line of a definition without a step bound.
 fn write_unbounded<N: Sink>(
     notes: &mut N,
-    name: &Option<Name>,
+    name: &Option<Subject>,
     cause: BoundCause,
 ) -> Result<(), Failed>
     ensures bytes { WritesAll (N.held notes.old) (N.held notes.new) result (line (named name.now ∷ unbounded cause ∷ [])) }
@@ -127,7 +148,7 @@ pub fn write_note<N: Sink>(
     notes: &mut N,
     words: &[String],
     status: Status,
-    name: &Option<Name>,
+    name: &Option<Subject>,
 ) -> Result<(), Failed>
     ensures bytes { WritesAll (N.held notes.old) (N.held notes.new) result (note_of (map string_bytes words.now) status (named name.now)) }
     ensures cause { HasCause (N.faults notes.old) (N.faults notes.new) result }
@@ -137,7 +158,9 @@ pub fn write_note<N: Sink>(
     match status {
         Status::Done => Ok(()),
         Status::BadWords => write_line(notes, &[b"bad words"]),
-        Status::Missing => write_line(notes, &[file_named(words).as_bytes(), b": missing"]),
+        Status::Missing => {
+            write_line(notes, &[noted_file(words, name).as_bytes(), b": missing"])
+        }
         Status::SourceRefused(refusal) => {
             let number = digits.format(refusal.token).as_bytes();
             write_line(
@@ -163,10 +186,15 @@ pub fn write_note<N: Sink>(
         Status::ReadFault => write_line(notes, &[b"read fault"]),
         Status::WriteFault => write_line(notes, &[b"write fault"]),
         Status::OutOfMemory => write_line(notes, &[b"out of memory"]),
-        Status::TooLarge => write_line(notes, &[file_named(words).as_bytes(), b": too large"]),
+        Status::TooLarge => {
+            write_line(notes, &[noted_file(words, name).as_bytes(), b": too large"])
+        }
         Status::Underflow => write_line(notes, &[b"underflow"]),
         Status::Unbalanced => write_line(notes, &[b"unbalanced"]),
         Status::NotYet => write_line(notes, &[b"not yet"]),
         Status::BoundRefused(_, cause) => write_unbounded(notes, name, cause),
+        Status::BadNet(line) => {
+            write_line(notes, &[b"net line ", digits.format(line).as_bytes()])
+        }
     }
 }

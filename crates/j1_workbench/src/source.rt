@@ -4,12 +4,12 @@ ghost use Rattle.j1_workbench.specs.Notes.{named};
 ghost use Rattle.j1_workbench.specs.Surroundings.{folder, IsOnlyRead};
 ghost use Rattle.j1_workbench.specs.Sources.{HasCertificate, IsCertifiedSource, IsRefusedText, IsRefusedSource};
 
-use crate::answer::{Answer, answered};
+use crate::answer::{Answer, Subject, answered};
 use crate::files::read_file;
 use crate::status::Status;
 use control_flow::{SourceError, read_program};
 use depth_certifier::{CertError, Certificate, certify};
-use forth_program::{Name, Program};
+use forth_program::Program;
 use outside_io::Folder;
 use std::alloc::Global;
 
@@ -37,7 +37,7 @@ pub fn certified_text(alloc: Global, text: &[u8]) -> Result<(Program, Certificat
         Err(CertError::NotCertified(id, cause)) => {
             Err(Answer {
                 status: Status::NotCertified(id, cause),
-                name: Name::new(program.name(id)),
+                name: Subject::new(program.name(id)),
             })
         }
         Err(CertError::OutOfMemory) => Err(answered(Status::OutOfMemory)),

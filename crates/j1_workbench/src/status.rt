@@ -48,6 +48,8 @@ pub enum Status {
     NotYet,
     /// The program has no step bound: the definition of the first item without one, and why.
     BoundRefused(DefId, BoundCause),
+    /// The file is no net file: its first bad line.
+    BadNet(u32),
 }
 
 /// The exit status of the program for a status.
@@ -73,5 +75,6 @@ pub fn status_number(status: &Status) -> u8
         Status::Unbalanced => 14,
         Status::NotYet => 15,
         Status::BoundRefused(_, _) => 16,
+        Status::BadNet(_) => 17,
     }
 }

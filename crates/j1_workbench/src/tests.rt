@@ -1,4 +1,5 @@
 // Worked calls of the workbench, with answers from outside.
+mod arrays;
 mod bounds;
 mod commands;
 mod evaluation;
@@ -8,6 +9,7 @@ mod images;
 mod library;
 mod limits;
 mod machine;
+mod networks;
 mod notation;
 mod numbers;
 mod phrases;

@@ -1,9 +1,10 @@
 // The words of a command line.
 ghost use Rattle.std.specs.Prelude.{◌≡◌, ℕ, List, Option, map, option_map, string_bytes};
-ghost use Rattle.j1_workbench.specs.Words.{is_file_name, steps_of, one_name, two_names, name_and_steps, make_of, request_for, request_of, Request, Run, Build, Execute, ListImage, Assemble, Certify, Evaluate, Forth, Make, Bound};
+ghost use Rattle.j1_workbench.specs.Words.{steps_of, one_name, two_names, name_and_steps, make_of, request_for, request_of, Request, Run, Build, Execute, ListImage, Assemble, Certify, Evaluate, Forth, Make, Bound, Net};
+ghost use Rattle.net_file.specs.Net.{is_file_name};
 ghost use Rattle.j1_workbench.specs.Commands.{requested};
 
-use crate::numbers::number_in;
+use net_file::number_in;
 
 /// What the words of a command line ask for, with the names of its files and its numbers.
 #[derive(Clone, Copy, Debug)]
@@ -18,6 +19,7 @@ pub enum Command<'a> {
     Forth { steps: Option<u32> },
     Make { seed: u32, count: u32 },
     Bound { source: &'a str },
+    Net { file: &'a str },
 }
 
 // The greatest numbers of instructions and of word steps that words may give.
@@ -149,6 +151,8 @@ fn command_for<'a>(command: &str, words: &'a [String]) -> Option<Command<'a>>
         make_of(words).map(|(seed, count)| Command::Make { seed, count })
     } else if command == "bound" {
         one_name(words).map(|source| Command::Bound { source })
+    } else if command == "net" {
+        one_name(words).map(|file| Command::Net { file })
     } else {
         None
     }

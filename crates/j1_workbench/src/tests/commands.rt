@@ -17,7 +17,7 @@ run source.fs --steps +1         | : MAIN ;                     |  |  | 1 bad wo
 bound                            | : MAIN ;                     |  |  | 1 bad words
 bound source.fs x                | : MAIN ;                     |  |  | 1 bad words
 bound NONE                       | : MAIN ;                     |  |  | 2 NONE: missing
-net source.fs                    | : MAIN ;                     |  |  | 1 bad words
+net source.fs                    | : MAIN ;                     |  |  | 17 net line 1
 eval x --steps 20000001          | : MAIN ;                     |  |  | 1 bad words
 make 65536 1                     | : MAIN ;                     |  |  | 1 bad words
 make 0 0                         | : MAIN ;                     |  |  | 1 bad words

@@ -2,7 +2,7 @@ use Rattle.std.proofs.Common.{rules, refl}
 use Rattle.std.specs.Prelude.{map}
 use Rattle.std.specs.String.{string_bytes}
 use Rattle.j1_workbench.specs.Surroundings.{stream, folder}
-use Rattle.j1_workbench.proofs.Commands.{does_build, does_list, does_assemble, does_certify, does_bound, does_evaluate, does_make}
+use Rattle.j1_workbench.proofs.Commands.{does_build, does_list, does_assemble, does_certify, does_bound, does_net, does_evaluate, does_make}
 use Rattle.j1_workbench.proofs.answering.answer.Goals as goal
 
 pub returns-in-Some-Certify : goal.returns-in-Some-Certify
@@ -12,6 +12,10 @@ returns-in-Some-Certify g c =
 pub returns-in-Some-Bound : goal.returns-in-Some-Bound
 returns-in-Some-Bound g c =
     does_bound _ c.in-Some-Bound.source.now _ _ _ _ (search rules) (c.bound.ensures (stream (g.C.Source.left c.args.console.now) (g.C.Source.calls c.args.console.now) (g.C.Source.faults c.args.console.now)))
+
+pub returns-in-Some-Net : goal.returns-in-Some-Net
+returns-in-Some-Net g c =
+    does_net _ c.in-Some-Net.file.now _ _ _ _ (search rules) (c.net.ensures (stream (g.C.Source.left c.args.console.now) (g.C.Source.calls c.args.console.now) (g.C.Source.faults c.args.console.now)))
 
 pub returns-in-Some-Build : goal.returns-in-Some-Build
 returns-in-Some-Build g c =

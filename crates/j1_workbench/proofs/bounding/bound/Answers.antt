@@ -17,4 +17,4 @@ pub returns-in-Err-Refused : goal.returns-in-Err-Refused
 returns-in-Err-Refused g c = λ console.
     bound_none c.args.source.now _ _ _ c.in-Ok.found.0 c.in-Ok.found.1 c.in-Err-Refused.id c.in-Err-Refused.cause c.certified_source.ensures.read c.in-Ok.ensures.found refl refl
     (subst (λ (e : BoundError). Answers c.in-Ok.found.0 (Err e)) c.in-Err-Refused.field-0-is c.in-Err-Refused.ensures.answer)
-    (definition_named c.new.result c.name.result.now c.new.ensures.form c.new.ensures.value c.name.ensures.form ∙ c.name.ensures.value)
+    (definition_named c.new.result c.name.result.now c.new.ensures c.name.ensures.form ∙ c.name.ensures.value)

@@ -1,6 +1,6 @@
 use Rattle.std.proofs.Common.{map, string_bytes, [], ◌∷◌, refl, ap, ◌∙◌, rules}
 use Rattle.std.specs.Prelude.{codes}
-use Rattle.j1_workbench.specs.declared.status.Status.TheVariants.{BadWords, StepsUsed, InputEnded, Outside, BadImage, BadListing, WriteFault, TooLarge, Underflow, Unbalanced}
+use Rattle.j1_workbench.specs.declared.status.Status.TheVariants.{BadWords, StepsUsed, InputEnded, Outside, BadImage, BadListing, WriteFault, TooLarge, Underflow, Unbalanced, BadNet}
 use Rattle.j1_workbench.specs.Notes.{line, named}
 use Rattle.j1_workbench.proofs.SinkContents.{noted}
 use Rattle.j1_workbench.proofs.notes.write_note.Goals as goal
@@ -23,7 +23,7 @@ returns-in-WriteFault-clause-bytes g c = noted _ _ _ (map string_bytes c.args.wo
 pub returns-in-TooLarge-clause-bytes : goal.returns-in-TooLarge-clause-bytes
 returns-in-TooLarge-clause-bytes g c =
     noted _ _ _ (map string_bytes c.args.words.now) (named c.args.name.now) c.args.status TooLarge _ c.in-TooLarge.is
-    (ap (λ name. line (name ∷ codes ": too large" ∷ [])) (c.as_bytes-in-TooLarge.ensures.value ∙ c.file_named-in-TooLarge.ensures)) c.write_line-in-TooLarge.ensures.bytes
+    (ap (λ name. line (name ∷ codes ": too large" ∷ [])) (c.as_bytes-in-TooLarge.ensures.value ∙ c.noted_file-in-TooLarge.ensures)) c.write_line-in-TooLarge.ensures.bytes
 
 pub returns-in-BadImage-clause-bytes : goal.returns-in-BadImage-clause-bytes
 returns-in-BadImage-clause-bytes g c = noted _ _ _ (map string_bytes c.args.words.now) (named c.args.name.now) c.args.status (BadImage c.in-BadImage.offset) _ c.in-BadImage.is (search rules) c.write_line-in-BadImage.ensures.bytes
@@ -36,3 +36,6 @@ returns-in-Underflow-clause-bytes g c = noted _ _ _ (map string_bytes c.args.wor
 
 pub returns-in-Unbalanced-clause-bytes : goal.returns-in-Unbalanced-clause-bytes
 returns-in-Unbalanced-clause-bytes g c = noted _ _ _ (map string_bytes c.args.words.now) (named c.args.name.now) c.args.status Unbalanced _ c.in-Unbalanced.is refl c.write_line-in-Unbalanced.ensures.bytes
+
+pub returns-in-BadNet-clause-bytes : goal.returns-in-BadNet-clause-bytes
+returns-in-BadNet-clause-bytes g c = noted _ _ _ (map string_bytes c.args.words.now) (named c.args.name.now) c.args.status (BadNet c.in-BadNet.line) _ c.in-BadNet.is (search rules) c.write_line-in-BadNet.ensures.bytes

@@ -1,0 +1,118 @@
+// Net files, their cores and statuses.
+use super::notation::field;
+use super::rows::{NEVER, Row, run_calls, run_row};
+use std::alloc::Global;
+use std::test::Fail;
+
+// The sources of cores. P sends 0 to 999 by link 0 and Q adds up what comes by it; S sends 64 cells, T 65; A waits for link 1 and B
+// for link 0; H prints A, K takes an input byte, and Z halts with 5.
+const SOURCES: &str =
+    "P = :_MAIN_1000_0_DO_I_16416_!_LOOP_; & Q = :_MAIN_0_1000_0_DO_16416_@_+_LOOP_U._; \
+& S = :_MAIN_64_0_DO_I_16416_!_LOOP_; & T = :_MAIN_65_0_DO_I_16416_!_LOOP_; & A = :_MAIN_16418_@_DROP_; \
+& B = :_MAIN_16416_@_DROP_; & H = :_MAIN_65_EMIT_; & K = :_MAIN_KEY_DROP_; & Z = :_MAIN_5_16388_!_; & X = :_MAIN_X_; & D = :_MAIN_DROP_;";
+
+// A net file, what is written to out, and the answer.
+const NETS: &str = r#"
+NET_1~core_P~core_Q~link_0_1~turns_10000_100           | core_0:_~core_1:_40748_~ |
+NET_1~core_P~core_Q~link_0_1~turns_1_1                 | core_0:_~core_1:_~       | 6 steps used
+NET_1~core_P~core_Q~link_0_0~turns_1_1                 |                          | 17 net line 4
+NET_1~core_A~core_B~link_0_1~link_1_0~turns_1000_100   | core_0:_~core_1:_~       | 6 steps used
+NET_1~core_B~core_H~link_1_0~turns_1000_100            | core_0:_~core_1:_A~      | 6 steps used
+NET_1~core_P~core_H~link_0_1~turns_1000_1000           | core_0:_~core_1:_A~      | 6 steps used
+NET_1~core_S~core_H~link_0_1~turns_1000_10             | core_0:_~core_1:_A~      |
+NET_1~core_T~core_H~link_0_1~turns_1000_10             | core_0:_~core_1:_A~      | 6 steps used
+NET_1~core_P~core_H~turns_1000_10                      | core_0:_~core_1:_A~      | 8 outside 16416
+NET_1~core_H~core_P~link_0_1~turns_1000_10             | core_0:_A~core_1:_~      | 8 outside 16416
+NET_1~core_H~core_K~turns_1000_10                      | core_0:_A~core_1:_~      | 7 input ended
+NET_1~core_Z~core_K~turns_1000_10                      | core_0:_~core_1:_~       | 9 halted 5
+NET_1~core_H~core_NONE~turns_1_1                       |                          | 2 NONE: missing
+NET_1~core_X~core_NONE~turns_1_1                       |                          | 3 source token 3: UnknownWord
+NET_1~core_H~core_D~turns_1_1                          |                          | 4 MAIN: not certified: Data
+                                                       |                          | 17 net line 1
+NET_2~core_H~core_H~turns_1_1                          |                          | 17 net line 1
+NET_1                                                  |                          | 17 net line 2
+NET_1~core_H~core_H                                    |                          | 17 net line 4
+NET_1~core_H~turns_1_1                                 |                          | 17 net line 3
+NET_1~core_-H~core_H~turns_1_1                         |                          | 17 net line 2
+NET_1~core_H~link_0_1~core_H                           |                          | 17 net line 3
+NET_1~core_H~core_H~link_0_2~turns_1_1                 |                          | 17 net line 4
+NET_1~core_H~core_H~link_0_1~core_H~turns_1_1          |                          | 17 net line 5
+NET_1~core_H~core_H~turns_1_1~core_H                   |                          | 17 net line 5
+NET_1~core_H~core_H~turns_1_1_1                        |                          | 17 net line 4
+NET_1~\_^80~core_H~core_H~turns_1_1                    |                          | 17 net line 2
+NET_1~core_H~core_H~turns_0_1                          |                          | 17 net line 4
+NET_1~core_H~core_H~turns_1_0                          |                          | 17 net line 4
+NET_1~core_H~core_H~turns_1000001_1                    |                          | 17 net line 4
+NET_1~core_H~core_H~turns_1_1001                       |                          | 17 net line 4
+NET_1~core_H~core_H~turns_1000000_3                    |                          | 17 net line 4
+NET_1~core_H~core_H~turns_00000000001_9                |                          | 17 net line 4
+NET_1~core_H~core_H~turns_1000000_2                    | core_0:_A~core_1:_A~     |
+~\_a~_NET^091_\_b~core_H^0D~~core_H~turns_0000000100_9 | core_0:_A~core_1:_A~     |
+"#;
+
+// Runs the cores of a net file.
+fn run_net_file(alloc: Global, net: &str, out: &str, answer: &str) -> Result<(), Fail> {
+    let files = format!(in alloc; "n = {net} & {SOURCES}")?;
+    let row = Row {
+        words: "net n",
+        source: "",
+        console: "",
+        out,
+        answer,
+        files: files.as_str(),
+        after: "",
+    };
+    run_row(alloc, &row, NEVER)
+}
+
+#[test]
+fn runs_nets(rt: HostRuntime) -> Result<(), Fail> {
+    let alloc = rt.alloc();
+    for line in NETS.trim_matches('\n').lines() {
+        let mut rest = line;
+        let net = field(&mut rest);
+        let out = field(&mut rest);
+        run_net_file(alloc, net, out, field(&mut rest))?;
+    }
+    Ok(())
+}
+
+// Appends a text so many times.
+fn times(alloc: Global, piece: &str, count: u8) -> Result<String, Fail> {
+    let mut text = String::new(alloc);
+    for _ in 0..count {
+        text.push_str(piece)?;
+    }
+    Ok(text)
+}
+
+// 16 cores and 16 links are run, and one more of either is a bad line.
+#[test]
+fn runs_most_cores(rt: HostRuntime) -> Result<(), Fail> {
+    let alloc = rt.alloc();
+    let mut out = String::new(alloc);
+    for core in 0..16u8 {
+        out.push_str(format!(in alloc; "core_{core}:_A~")?.as_str())?;
+    }
+    let cores = times(alloc, "core_H~", 16)?;
+    let links = times(alloc, "link_0_15~", 16)?;
+    let most = format!(in alloc; "NET_1~{cores}{links}turns_100_10")?;
+    run_net_file(alloc, most.as_str(), out.as_str(), "")?;
+    let linked = format!(in alloc; "NET_1~{cores}{links}link_0_1~turns_1_1")?;
+    run_net_file(alloc, linked.as_str(), "", "17 net line 34")?;
+    let many = format!(in alloc; "NET_1~{cores}core_H~turns_1_1")?;
+    run_net_file(alloc, many.as_str(), "", "17 net line 18")?;
+    Ok(())
+}
+
+const WORDS: &str = r#"
+net NONE  | |  |  | 2 NONE: missing
+net       | |  |  | 1 bad words
+net a b   | |  |  | 1 bad words
+run P     | |  |  | 8 outside 16416 | P = :_MAIN_1000_0_DO_I_16416_!_LOOP_;
+"#;
+
+#[test]
+fn answers_net_words(rt: HostRuntime) -> Result<(), Fail> {
+    run_calls(rt.alloc(), WORDS)
+}
