@@ -16,9 +16,9 @@ const NETS: &str = r#"
 NET_1~core_P~core_Q~link_0_1~turns_10000_100           | core_0:_~core_1:_40748_~ |
 NET_1~core_P~core_Q~link_0_1~turns_1_1                 | core_0:_~core_1:_~       | 6 steps used
 NET_1~core_P~core_Q~link_0_0~turns_1_1                 |                          | 17 net line 4
-NET_1~core_A~core_B~link_0_1~link_1_0~turns_1000_100   | core_0:_~core_1:_~       | 6 steps used
-NET_1~core_B~core_H~link_1_0~turns_1000_100            | core_0:_~core_1:_A~      | 6 steps used
-NET_1~core_P~core_H~link_0_1~turns_1000_1000           | core_0:_~core_1:_A~      | 6 steps used
+NET_1~core_A~core_B~link_0_1~link_1_0~turns_100_100    | core_0:_~core_1:_~       | 6 steps used
+NET_1~core_B~core_H~link_1_0~turns_100_100             | core_0:_~core_1:_A~      | 6 steps used
+NET_1~core_P~core_H~link_0_1~turns_100_100             | core_0:_~core_1:_A~      | 6 steps used
 NET_1~core_S~core_H~link_0_1~turns_1000_10             | core_0:_~core_1:_A~      |
 NET_1~core_T~core_H~link_0_1~turns_1000_10             | core_0:_~core_1:_A~      | 6 steps used
 NET_1~core_P~core_H~turns_1000_10                      | core_0:_~core_1:_A~      | 8 outside 16416
@@ -28,6 +28,11 @@ NET_1~core_Z~core_K~turns_1000_10                      | core_0:_~core_1:_~     
 NET_1~core_H~core_NONE~turns_1_1                       |                          | 2 NONE: missing
 NET_1~core_X~core_NONE~turns_1_1                       |                          | 3 source token 3: UnknownWord
 NET_1~core_H~core_D~turns_1_1                          |                          | 4 MAIN: not certified: Data
+~\_a~_NET^091_\_b~core_H^0D~~core_H~turns_0000000100_9 | core_0:_A~core_1:_A~     |
+"#;
+
+// Texts that are no net files.
+const BAD: &str = r#"
                                                        |                          | 17 net line 1
 NET_2~core_H~core_H~turns_1_1                          |                          | 17 net line 1
 NET_1                                                  |                          | 17 net line 2
@@ -46,8 +51,6 @@ NET_1~core_H~core_H~turns_1000001_1                    |                        
 NET_1~core_H~core_H~turns_1_1001                       |                          | 17 net line 4
 NET_1~core_H~core_H~turns_1000000_3                    |                          | 17 net line 4
 NET_1~core_H~core_H~turns_00000000001_9                |                          | 17 net line 4
-NET_1~core_H~core_H~turns_1000000_2                    | core_0:_A~core_1:_A~     |
-~\_a~_NET^091_\_b~core_H^0D~~core_H~turns_0000000100_9 | core_0:_A~core_1:_A~     |
 "#;
 
 // Runs the cores of a net file.
@@ -65,16 +68,31 @@ fn run_net_file(alloc: Global, net: &str, out: &str, answer: &str) -> Result<(),
     run_row(alloc, &row, NEVER)
 }
 
-#[test]
-fn runs_nets(rt: HostRuntime) -> Result<(), Fail> {
-    let alloc = rt.alloc();
-    for line in NETS.trim_matches('\n').lines() {
+fn run_net_files(alloc: Global, table: &str) -> Result<(), Fail> {
+    for line in table.trim_matches('\n').lines() {
         let mut rest = line;
         let net = field(&mut rest);
         let out = field(&mut rest);
         run_net_file(alloc, net, out, field(&mut rest))?;
     }
     Ok(())
+}
+
+#[test]
+fn runs_nets(rt: HostRuntime) -> Result<(), Fail> {
+    run_net_files(rt.alloc(), NETS)
+}
+
+#[test]
+fn refuses_bad_lines(rt: HostRuntime) -> Result<(), Fail> {
+    run_net_files(rt.alloc(), BAD)
+}
+
+// The most entries: 4,000,000.
+#[test]
+fn runs_most_turns(rt: HostRuntime) -> Result<(), Fail> {
+    let net = "NET_1~core_H~core_H~turns_1000000_2";
+    run_net_file(rt.alloc(), net, "core_0:_A~core_1:_A~", "")
 }
 
 // Appends a text so many times.
