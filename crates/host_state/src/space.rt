@@ -33,6 +33,17 @@ impl DataSpace {
         Ok(DataSpace { data_start, cells })
     }
 
+    /// The same data space.
+    pub(crate) fn copy(&self, alloc: Global) -> Result<DataSpace, AllocError>
+        ensures { IfOk result (λ copy. copy ≡ self.now) }
+    {
+        let cells = Vec::from_slice(alloc, self.cells.as_slice())?;
+        Ok(DataSpace {
+            data_start: self.data_start,
+            cells,
+        })
+    }
+
     /// Where it begins.
     pub fn data_start(&self) -> u16
         ensures value { result ≡ self.now.data_start }

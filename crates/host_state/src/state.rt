@@ -80,6 +80,20 @@ impl HostState {
         })
     }
 
+    /// The same cells, data space and tokens.
+    pub fn copy(&self, alloc: Global) -> Result<HostState, AllocError>
+        ensures { IfOk result (λ copy. copy ≡ self.now) }
+    {
+        let stack = self.stack.copy()?;
+        let space = self.space.copy(alloc)?;
+        let tokens = Vec::from_slice(alloc, self.tokens.as_slice())?;
+        Ok(HostState {
+            stack,
+            space,
+            tokens,
+        })
+    }
+
     /// Takes the top of the stack.
     pub fn pop(&mut self) -> Result<u16, HostError>
         ensures value { Answers (λ x. x) self.new result (pop self.old) }
