@@ -1,21 +1,20 @@
 -- What holds of places at which host words act, texts are laid and names are ticked.
-use Rattle.std.proofs.Common.{◌≡◌, ℕ, zero, suc, ◌+◌, ◌<◌, ◌≤◌, nat_lt, Bool, true, false, ◌&&◌, List, [], ◌∷◌, ◌++◌, length, Option, Some, None, refl, sym, ap, ◌∙◌, subst, arith, length-append, ltb-true}
+use Rattle.std.proofs.Common.{◌≡◌, ℕ, zero, suc, ◌+◌, ◌<◌, ◌≤◌, nat_lt, Bool, true, false, List, [], ◌∷◌, ◌++◌, length, Option, Some, None, refl, sym, ap, ◌∙◌, subst, arith, length-append, ltb-true}
 use Rattle.std.specs.List.{list_all}
 use Rattle.std.proofs.lemmas.Bool.{and_from, and_parts, lt-ltb}
 use Rattle.forth_program.specs.Tree.{Node, Literal, Plain, Call, Child}
-use Rattle.forth_program.specs.Form.{may_be_token}
 use Rattle.forth_program.specs.Weight.{token_weight}
 use Rattle.forth_reader.specs.Reading.{Reading, NoMore, Reads, Refuses, next_from, StringReading, Quoted, Unquoted, string_from}
 use Rattle.host_state.specs.declared.entry.Ticked.{Ticked}
 use Rattle.host_state.specs.declared.word.HostItem.{HostItem}
-use Rattle.host_state.specs.HostCells.{Host, Reply, Gives, Refuses, pop}
+use Rattle.host_state.specs.HostCells.{Host, Reply, Gives, Refuses}
 use Rattle.host_state.specs.HostMemory.{checked}
-use Rattle.host_state.specs.Naming.{item_done, string_laid, ticked_by, tick}
+use Rattle.host_state.specs.Naming.{item_done, ticked_by, tick}
 use Rattle.host_state.specs.Tokens.{is_same, token_from, token_of}
-use Rattle.host_state.specs.Kept.{IsHost, IsSettled, After, HostKeeps, HostWordsKeep}
+use Rattle.host_state.specs.Kept.{IsSettled, After, HostKeeps, HostWordsKeep}
 use Rattle.control_flow.specs.declared.host_sense.HostSense.{HostSense}
 use Rattle.control_flow.specs.declared.host_sense.HostSense.TheVariants.{Acts, Closes, Quoted as QuotedText, OutOfRange, Unknown, Forbidden}
-use Rattle.control_flow.specs.ParseResult.{ParserState, ParseResult, Fine, Refused, ◌>>=◌, hosted_as}
+use Rattle.control_flow.specs.ParseResult.{ParserState, ParseResult, Fine, hosted_as}
 use Rattle.control_flow.specs.Ticks.{ticked_node, token_nodes, tokens_weight, tick_weight}
 use Rattle.control_flow.specs.ReadTokens.{HostToken, host_token_of, host_token_at, Quotation, quotation_of, quotation_at}
 use Rattle.control_flow.specs.Brackets.{acted_at, quoted_at, bracket_by, bracket_at}

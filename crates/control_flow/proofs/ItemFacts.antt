@@ -28,8 +28,8 @@ use Rattle.control_flow.specs.declared.sense.Sense.{Sense}
 use Rattle.control_flow.specs.declared.sense.Sense.TheVariants as sense
 use Rattle.control_flow.specs.Nest.{nest_ended, is_inside_do, open_of}
 use Rattle.control_flow.specs.Sense.{opening_word, ending_word}
-use Rattle.control_flow.specs.Ticks.{ticked_in, ticked_node, token_nodes, tokens_weight, tick_weight}
-use Rattle.control_flow.specs.ParseResult.{ParserState, ParseResult, ◌>>=◌, hosted_as, weighed_as, weighed, unfit}
+use Rattle.control_flow.specs.Ticks.{ticked_in, token_nodes, tokens_weight, tick_weight}
+use Rattle.control_flow.specs.ParseResult.{ParserState, ParseResult, ◌>>=◌, weighed_as, unfit}
 use Rattle.control_flow.specs.ReadTokens.{base_at, ReadToken, read_token_of, token_at, Named, spelled_of, spelled_at, first_byte, quotation_at}
 use Rattle.control_flow.specs.Brackets.{bracket_at}
 use Rattle.control_flow.specs.Items.{One, Many, Body, Cases, opened_at}

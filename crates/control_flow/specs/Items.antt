@@ -1,5 +1,5 @@
 -- The items of a definition, up to the word that ends them (the control-flow stack of ANS Forth).
-use Rattle.std.specs.Prelude.{ℕ, zero, suc, ◌+◌, true, false, List, [], ◌∷◌, length, Result, Ok, Err}
+use Rattle.std.specs.Prelude.{ℕ, zero, suc, true, false, List, length, Result, Ok, Err}
 use Rattle.word_table.specs.declared.word.Word.{Word}
 use Rattle.word_table.specs.declared.word.Word.TheVariants as word
 use Rattle.word_table.specs.Table.{entry_of}
@@ -22,7 +22,7 @@ use Rattle.control_flow.specs.declared.sense.Sense.TheVariants as sense
 use Rattle.control_flow.specs.Nest.{open_of, with_open, nest_ended, is_inside_do}
 use Rattle.control_flow.specs.Sense.{opening_word, ending_word}
 use Rattle.control_flow.specs.Ticks.{ticked_in, tick_weight}
-use Rattle.control_flow.specs.ReadTokens.{ReadToken, token_at, Named, spelled_at, first_byte, quotation_at}
+use Rattle.control_flow.specs.ReadTokens.{token_at, Named, spelled_at, first_byte, quotation_at}
 use Rattle.control_flow.specs.Brackets.{bracket_at}
 use Rattle.control_flow.specs.ParseResult.{ParserState, ParseResult, Fine, Refused, Endless, ◌>>=◌, hosted_as, weighed_as, weighed, forbidden, unfit}
 

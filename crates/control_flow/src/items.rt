@@ -1,5 +1,5 @@
 // Reading the items of a definition.
-ghost use Rattle.std.specs.Prelude.{◌≡◌, ℕ, ◌<◌, ◌≤◌, length, OnOk};
+ghost use Rattle.std.specs.Prelude.{ℕ, ◌<◌, ◌≤◌, length, OnOk};
 ghost use Rattle.forth_program.specs.ItemTrees.{node_of, tree_of};
 ghost use Rattle.control_flow.specs.Items.{if_at, begin_at, do_at, q_do_at, body_at, case_at, structure_at, item_at, items_by, items_at};
 ghost use Rattle.control_flow.specs.Answers.{parser_state, IsReadyParser, AnswersAs};

@@ -17,8 +17,6 @@ mod sense;
 mod single_items;
 mod source;
 mod structures;
-#[cfg(test)]
-mod tests;
 mod ticks;
 
 pub use laws::{programs_are_sources, tests_widen, texts_are_judged};

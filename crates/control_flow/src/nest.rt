@@ -1,6 +1,6 @@
 // The open structures of a definition.
 ghost use Rattle.std.specs.Prelude.{◌≡◌, []};
-ghost use Rattle.control_flow.specs.Nest.{open_of, step_of, with_open, nest_ended, ended_outside, is_do, any_do, is_inside_do, nest_left, opened_by, nest_closed_by, Nested};
+ghost use Rattle.control_flow.specs.Nest.{open_of, step_of, with_open, nest_ended, is_do, any_do, is_inside_do, nest_left, opened_by, nest_closed_by, Nested};
 ghost use Rattle.control_flow.specs.Sense.{opening_word, ending_word};
 
 use crate::refusal::SourceCause;

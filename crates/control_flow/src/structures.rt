@@ -1,5 +1,5 @@
 // Structures of their parts.
-ghost use Rattle.std.specs.Prelude.{◌≡◌, Bool};
+ghost use Rattle.std.specs.Prelude.{◌≡◌};
 ghost use Rattle.forth_program.specs.Tree as tree;
 ghost use Rattle.forth_program.specs.ItemTrees.{node_of, tree_of, arms_of, arms_tree};
 

@@ -1,7 +1,7 @@
 // Buckets of names.
 ghost use Rattle.std.specs.Prelude.{◌≡◌, ◌<◌, ◌+◌, ◌%◌};
 ghost use Rattle.forth_reader.specs.Number.{raised_letter};
-ghost use Rattle.dictionary_core.specs.Buckets.{bucket, raised_sum};
+ghost use Rattle.dictionary_core.specs.Buckets.{bucket};
 
 // A letter in upper case.
 fn raised(byte: u8) -> u8

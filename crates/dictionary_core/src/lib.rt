@@ -7,8 +7,6 @@
 mod bucket;
 mod chain;
 mod dictionary;
-#[cfg(test)]
-mod tests;
 
 pub use bucket::bucket_of;
 pub use dictionary::{AddRefusal, Dictionary, Mark};

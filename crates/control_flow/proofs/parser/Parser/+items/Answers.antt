@@ -3,7 +3,7 @@ use Rattle.forth_program.specs.ItemTrees.{items_of, arms_of}
 use Rattle.control_flow.specs.ParseResult.{Fine}
 use Rattle.control_flow.specs.Items.{items_at}
 use Rattle.control_flow.specs.Answers.{parser_state}
-use Rattle.control_flow.proofs.ItemLists.{started, refused_token, with_token, refused_end, ends, refused_bracket, behind_bracket, refused_item, behind_item, refused_first, items_first, longer}
+use Rattle.control_flow.proofs.ItemLists.{started, refused_token, with_token, ends, behind_bracket, refused_item, behind_item, refused_first, items_first, longer}
 use Rattle.control_flow.proofs.ArmLists.{refused_tests, ends_case, unfit_case, refused_body, next_arm, one_arm_more}
 use Rattle.control_flow.proofs.parser.Parser.+items.Goals as goal
 

@@ -1,4 +1,4 @@
-use Rattle.std.proofs.Common.{◌≡◌, ℕ, ◌<◌, ◌≤◌, length}
+use Rattle.std.proofs.Common.{ℕ, ◌<◌, ◌≤◌, length}
 use Rattle.control_flow.specs.Brackets.{bracket_at}
 use Rattle.control_flow.specs.Answers.{parser_state, IsReadyParser}
 use Rattle.control_flow.proofs.BracketSteps.{InBracket}
