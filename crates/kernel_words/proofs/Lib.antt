@@ -15,3 +15,4 @@ pub mod HeaderRun
 pub mod HeaderLaw
 pub mod HeaderList
 mod Samples
+pub mod ReadText

@@ -4,3 +4,4 @@ pub mod Running
 pub mod Memory
 pub mod Headers
 pub mod Laws
+pub mod Program

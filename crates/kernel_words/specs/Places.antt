@@ -28,6 +28,10 @@ word_buffer = 8406
 abbrev pub source_cell : ℕ
 source_cell = 8488
 
+-- ERROR, why the rest of the line is dropped, or 0
+abbrev pub error_cell : ℕ
+error_cell = 8490
+
 -- ---- the place of each definition among the bodies of the kernel, from 0; two stand before these
 abbrev pub reached_place : ℕ
 reached_place = 2

@@ -3,5 +3,7 @@
 #![tactic(auto)]
 
 mod laws;
+mod text;
 
-pub use laws::kernel_words_keep_their_laws;
+pub use laws::{kernel_words_are_read, kernel_words_keep_their_laws};
+pub use text::KERNEL_WORDS_TEXT;
