@@ -16,3 +16,4 @@ pub mod HeaderLaw
 pub mod HeaderList
 mod Samples
 pub mod ReadText
+pub mod Certificate

@@ -120,7 +120,7 @@ NamesAreFound =
 -- K-CELL ( x -- ) stores x at HERE and adds 2 to HERE
 pub record CellIsLaid (p : SourceProgram) (x : ℕ) (c : List ℕ) (w : World) : Type 0 where
   pub after : World
-  pub run : Returns p kernel_cell_body 100 49 (x ∷ c) w c after
+  pub run : Returns p kernel_cell_body 2 49 (x ∷ c) w c after
   pub console : KeepsConsole w after
   pub cell : data_cell after (data_cell w here_cell) ≡ x
   pub here : data_cell after here_cell ≡ data_cell w here_cell + 2

@@ -5,3 +5,4 @@ pub mod Memory
 pub mod Headers
 pub mod Laws
 pub mod Program
+pub mod Certificate
