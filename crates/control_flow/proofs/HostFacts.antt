@@ -1,7 +1,8 @@
 -- What holds of places at which host words act, texts are laid and names are ticked.
-use Rattle.std.proofs.Common.{◌≡◌, ℕ, zero, suc, ◌+◌, ◌<◌, ◌≤◌, nat_lt, Bool, true, false, List, [], ◌∷◌, ◌++◌, length, Option, Some, None, refl, sym, ap, ◌∙◌, subst, arith, length-append, ltb-true}
+use Rattle.std.proofs.Common.{◌≡◌, ℕ, zero, suc, ◌+◌, ◌-◌, ◌/◌, ◌<◌, ◌≤◌, nat_lt, Bool, true, false, List, [], ◌∷◌, ◌++◌, length, Option, Some, None, refl, sym, ap, ◌∙◌, subst, arith, length-append, ltb-true}
 use Rattle.std.specs.List.{list_all}
 use Rattle.std.proofs.lemmas.Bool.{and_from, and_parts, lt-ltb}
+use Rattle.console_ports.specs.DataSpace.{IsDataStart}
 use Rattle.forth_program.specs.Tree.{Node, Literal, Plain, Call, Child}
 use Rattle.forth_program.specs.Weight.{token_weight}
 use Rattle.forth_reader.specs.Reading.{Reading, NoMore, Reads, Refuses, next_from, StringReading, Quoted, Unquoted, string_from}
@@ -14,7 +15,7 @@ use Rattle.host_state.specs.Tokens.{is_same, token_from, token_of}
 use Rattle.host_state.specs.Kept.{IsSettled, After, HostKeeps, HostWordsKeep}
 use Rattle.control_flow.specs.declared.host_sense.HostSense.{HostSense}
 use Rattle.control_flow.specs.declared.host_sense.HostSense.TheVariants.{Acts, Closes, Quoted as QuotedText, OutOfRange, Unknown, Forbidden}
-use Rattle.control_flow.specs.ParseResult.{ParserState, ParseResult, Fine, hosted_as}
+use Rattle.control_flow.specs.ParseResult.{ParserState, ParseResult, Fine, hosted_as, most_weight}
 use Rattle.control_flow.specs.Ticks.{ticked_node, token_nodes, tokens_weight, tick_weight}
 use Rattle.control_flow.specs.ReadTokens.{HostToken, host_token_of, host_token_at, Quotation, quotation_of, quotation_at}
 use Rattle.control_flow.specs.Brackets.{acted_at, quoted_at, bracket_by, bracket_at}
@@ -27,14 +28,34 @@ use Rattle.control_flow.proofs.Moves.{Good, good_then, good_weaker, Moves}
 abbrev pub ticks : ParserState → ℕ
 ticks at = tokens_weight (token_nodes at.host.tokens)
 
+-- ---- what host words act on: data space begins where it may, and is settled
+
+pub record IsSound (s : Host) : Type 0 where
+  pub start : IsDataStart s.space.data_start
+  pub settled : IsSettled s.space.data_start s.tokens s
+
+-- what host words leave: data space where it was, with the same tokens
+abbrev pub Leads : Host → Host → Type 0
+Leads from s = IsSettled from.space.data_start from.tokens s
+
+pub sound_after : (from s : Host) → IsSound from → Leads from s → IsSound s
+sound_after from s sound h = record {
+  start = subst IsDataStart (sym h.host.start) sound.start;
+  settled = subst (λ tokens. IsSettled s.space.data_start tokens s) (sym h.host.ticked) (subst (λ d. IsSettled d from.tokens s) (sym h.host.start) h);
+}
+
+-- the weights are few at every data start
+pub most_small : (d : ℕ) → IsDataStart d → d / 2 - 1696 ≤ 6304
+most_small d start = omega (arith, start.at_most)
+
 -- ---- what a place knows: names, tokens and data space are such that definitions have numbers below N
 
 pub record Knows (N : ℕ) (at : ParserState) : Type 0 where
   pub others : AllBelow N at.entries
   pub ticked : list_all (is_read_token N) (token_nodes at.host.tokens) ≡ true
-  pub settled : IsSettled 8192 at.host.tokens at.host
+  pub sound : IsSound at.host
   pub few : length at.host.tokens ≤ at.weight
-  pub light : at.weight ≤ 2400
+  pub light : at.weight ≤ most_weight at
 
 -- and the definition that is read too
 pub record Bounded (N : ℕ) (at : ParserState) : Type 0 where
@@ -63,17 +84,17 @@ pub knows_wider : (N M : ℕ) (at : ParserState) → N ≤ M → Knows N at → 
 knows_wider N M at h k = record {
   others = below_wider N M at.entries h k.others;
   ticked = tokens_wider N M h (token_nodes at.host.tokens) k.ticked;
-  settled = k.settled;
+  sound = k.sound;
   few = k.few;
   light = k.light;
 }
 
 -- a place with the same names and the same for host words, which weighs as much or more
-pub still_knows : (N : ℕ) (from at : ParserState) → at.entries ≡ from.entries → at.host ≡ from.host → from.weight ≤ at.weight → at.weight ≤ 2400 → Knows N from → Knows N at
+pub still_knows : (N : ℕ) (from at : ParserState) → at.entries ≡ from.entries → at.host ≡ from.host → from.weight ≤ at.weight → at.weight ≤ most_weight at → Knows N from → Knows N at
 still_knows N from at e s w l k = record {
   others = subst (AllBelow N) (sym e) k.others;
   ticked = ap (λ (h : Host). list_all (is_read_token N) (token_nodes h.tokens)) s ∙ k.ticked;
-  settled = subst (λ (h : Host). IsSettled 8192 h.tokens h) (sym s) k.settled;
+  sound = subst IsSound (sym s) k.sound;
   few = omega (arith, ap (λ (h : Host). length h.tokens) s, k.few, w);
   light = l;
 }
@@ -118,7 +139,7 @@ keeps_then from mid at g h = record {
 -- the same at a place that is read on
 pub reads_on : (from : ParserState) (rest : List ℕ) (count : ℕ) → Keeps from (record from { rest = rest; count = count })
 reads_on from rest count = record {
-  knows = λ N k. record { others = k.others; ticked = k.ticked; settled = k.settled; few = k.few; light = k.light };
+  knows = λ N k. record { others = k.others; ticked = k.ticked; sound = k.sound; few = k.few; light = k.light };
   ticked = λ N k. refl;
 }
 
@@ -142,31 +163,31 @@ after_if C P (Gives x s) h = h
 after_if C P (Refuses c) h = tt
 
 -- the tokens of a place, with other data space that is settled
-pub hosted_knows : (N : ℕ) (from : ParserState) (s : Host) → IsSettled 8192 from.host.tokens s → Knows N from → Knows N (record from { host = s })
+pub hosted_knows : (N : ℕ) (from : ParserState) (s : Host) → Leads from.host s → Knows N from → Knows N (record from { host = s })
 hosted_knows N from s settled k = record {
   others = k.others;
   ticked = ap (λ tokens. list_all (is_read_token N) (token_nodes tokens)) settled.host.ticked ∙ k.ticked;
-  settled = subst (λ tokens. IsSettled 8192 tokens s) (sym settled.host.ticked) settled;
+  sound = sound_after from.host s k.sound settled;
   few = omega (arith, ap (λ (tokens : List Ticked). length tokens) settled.host.ticked, k.few);
-  light = k.light;
+  light = subst (λ d. from.weight ≤ d / 2 - 1696) (sym settled.host.start) k.light;
 }
 
 -- settled data space stays so
 abbrev pub Settles : ParserState → Host → Type 0
-Settles from s = IsSettled 8192 from.host.tokens from.host → IsSettled 8192 from.host.tokens s
+Settles from s = IsSound from.host → Leads from.host s
 
 pub settles_keeps : (from : ParserState) (s : Host) → Settles from s → Keeps from (record from { host = s })
 settles_keeps from s h = record {
-  knows = λ N k. hosted_knows N from s (h k.settled) k;
-  ticked = λ N k. (h k.settled).host.ticked;
+  knows = λ N k. hosted_knows N from s (h k.sound) k;
+  ticked = λ N k. (h k.sound).host.ticked;
 }
 
 pub same_goes : (from : ParserState) (s : Host) → Goes from (record from { host = s })
 same_goes from s = record { entries = refl; definitions = refl; nest = refl; weight = refl; count = omega arith; left = omega arith }
 
 module _ (keep : HostWordsKeep) where
-  pub keeps_of : (from : ParserState) → IsSettled 8192 from.host.tokens from.host → HostKeeps 8192 from.host.tokens from.host
-  keeps_of from settled = keep 8192 from.host.tokens from.host refl (omega arith) settled
+  pub keeps_of : (from : Host) → IsSound from → HostKeeps from.space.data_start from.tokens from
+  keeps_of from sound = keep from.space.data_start from.tokens from sound.start.is_even sound.start.at_most sound.settled
 
   -- ---- brackets
 
@@ -177,7 +198,7 @@ module _ (keep : HostWordsKeep) where
   acted_read : (item : HostItem) (from : ParserState) → Good (ActedRead from) (acted_at item from)
   acted_read item from =
       good_hosted (λ _ s. Settles from s) (ActedRead from) from.count from (checked (item_done item from.host)) (λ _ after. Fine after)
-      (after_if (IsSettled 8192 from.host.tokens from.host) (λ _ s. IsSettled 8192 from.host.tokens s) (checked (item_done item from.host)) (λ settled. (keeps_of from settled).items item))
+      (after_if (IsSound from.host) (λ _ s. Leads from.host s) (checked (item_done item from.host)) (λ sound. (keeps_of from.host sound).items item))
       (λ _ s h. record { goes = same_goes from s; keeps = settles_keeps from s h })
 
   record HostTokenRead (from : ParserState) (seen : HostToken) : Type 0 where
@@ -273,7 +294,7 @@ weight_more (t ∷ ts) one = omega (arith, weight_more ts one)
 -- what a tick leaves: the same names, and the token with what it weighs more
 pub record TickRead (from : ParserState) (one : Ticked) (token : ℕ × Bool) (s : Host) : Type 0 where
   pub number : token.0 ≤ length from.host.tokens + 1
-  pub settled : IsSettled 8192 from.host.tokens from.host → IsSettled 8192 s.tokens s
+  pub sound : IsSound from.host → IsSound s
   pub ticked : (N : ℕ) → list_all (is_read_token N) (token_nodes from.host.tokens) ≡ true → is_read_token N (ticked_node one) ≡ true → list_all (is_read_token N) (token_nodes s.tokens) ≡ true
   pub few : length s.tokens ≤ length from.host.tokens + 1
   pub weight : 2 + tokens_weight (token_nodes s.tokens) ≤ tick_weight one token.1 + tokens_weight (token_nodes from.host.tokens)
@@ -281,16 +302,19 @@ pub record TickRead (from : ParserState) (one : Ticked) (token : ℕ × Bool) (s
 tick_on : (from : ParserState) (one : Ticked) (o : Option ℕ) → token_of one from.host.tokens ≡ o → After (TickRead from one) (ticked_by one o from.host)
 tick_on from one (Some k) e = record {
   number = omega (arith, token_below 1 k one from.host.tokens e);
-  settled = λ settled. settled;
+  sound = λ sound. sound;
   ticked = λ N all own. all;
   few = omega arith;
   weight = omega arith;
 }
 tick_on from one None e = record {
   number = omega arith;
-  settled = λ settled. record {
-    host = record { stack = settled.host.stack; fits = settled.host.fits; start = settled.host.start; ticked = refl };
-    here = settled.here;
+  sound = λ sound. record {
+    start = sound.start;
+    settled = record {
+      host = record { stack = sound.settled.host.stack; fits = sound.settled.host.fits; start = refl; ticked = refl };
+      here = sound.settled.here;
+    };
   };
   ticked = λ N all own. nodes_more from.host.tokens one N all own;
   few = omega (arith, length-append from.host.tokens (one ∷ []));

@@ -16,7 +16,7 @@ use Rattle.host_state.specs.declared.entry.Ticked.{Ticked}
 use Rattle.host_state.specs.HostCells.{Host, pop}
 use Rattle.host_state.specs.HostMemory.{checked}
 use Rattle.host_state.specs.Naming.{tick, string_laid}
-use Rattle.host_state.specs.Kept.{IsSettled, HostWordsKeep}
+use Rattle.host_state.specs.Kept.{HostWordsKeep}
 use Rattle.control_flow.specs.declared.refusal.SourceCause.{SourceCause}
 use Rattle.control_flow.specs.declared.nest.Open.{Open}
 use Rattle.control_flow.specs.declared.nest.Open.TheVariants as kind
@@ -39,7 +39,7 @@ use Rattle.control_flow.specs.SourceLaw.{is_read, is_read_token}
 use Rattle.control_flow.proofs.Readings.{Passes, name_passes, next_passes}
 use Rattle.control_flow.proofs.Senses.{AllBelow, IsSense, sense_is, IsTicked, ticked_is}
 use Rattle.control_flow.proofs.Moves.{Good, good_then, good_weaker, Moves, weighs, opens, ends, gone, becomes, holds, same_loop, own_loop}
-use Rattle.control_flow.proofs.HostFacts.{ticks, Knows, Bounded, still_bounded, moved_knows, moved_ticks, Goes, goes_then, Keeps, keeps_then, reads_on, Passed}
+use Rattle.control_flow.proofs.HostFacts.{IsSound, Leads, most_small, ticks, Knows, Bounded, still_bounded, moved_knows, moved_ticks, Goes, goes_then, Keeps, keeps_then, reads_on, Passed}
 use Rattle.control_flow.proofs.HostFacts.{good_hosted, after_if, settles_keeps, same_goes, keeps_of, bracket_read, QuotationRead, quotation_read, TickRead, tick_read}
 
 -- a token was read as a name, which begins with a byte
@@ -125,7 +125,7 @@ record IsReadyItem (N w : ℕ) (node : Node) (from mid : ParserState) : Type 0 w
   read : (is_read N node && inside (is_read N) node) ≡ true
   others : AllBelow N mid.entries
   ticked : list_all (is_read_token N) (token_nodes mid.host.tokens) ≡ true
-  settled : IsSettled 8192 mid.host.tokens mid.host
+  sound : IsSound mid.host
   few : length mid.host.tokens ≤ mid.weight + w
   cost : node_weight node + ticks mid ≤ w + ticks from
 
@@ -135,7 +135,7 @@ ready_kept N w node from mid end same m r = record {
   knows = record {
     others = subst (AllBelow N) (sym m.entries) r.others;
     ticked = ap (λ (h : Host). list_all (is_read_token N) (token_nodes h.tokens)) m.host ∙ r.ticked;
-    settled = subst (λ (h : Host). IsSettled 8192 h.tokens h) (sym m.host) r.settled;
+    sound = subst IsSound (sym m.host) r.sound;
     few = omega (arith, ap (λ (h : Host). length h.tokens) m.host, m.weight, r.few);
     light = m.light;
   };
@@ -163,7 +163,7 @@ kept_ready N w node from mid p e i b =
       read = i;
       others = k.others;
       ticked = k.ticked;
-      settled = k.settled;
+      sound = k.sound;
       few = omega (arith, k.few);
       cost = omega (arith, e, ap (λ (tokens : List Ticked). tokens_weight (token_nodes tokens)) (p.ticked N b));
     }
@@ -182,7 +182,7 @@ char_read from = good_then (SpelledRead from) (ItemRead from) (spelled_at from) 
 
 -- a text is laid in data space
 abbrev TextLaid : ParserState → ℕ → ℕ → Host → Type 0
-TextLaid from size address s = IsSettled 8192 from.host.tokens s × (address + size ≤ 16384)
+TextLaid from size address s = Leads from.host s × (address + size ≤ 16384)
 
 quoting_weight : (kind : TextKind) → text_weight kind ≡ (entry_of (quoting_word kind)).weight
 quoting_weight text.Address = refl
@@ -194,25 +194,25 @@ text_read keep kind from = good_then (QuotationRead from) (ItemRead from) (quota
     (λ quotation q.
     let mid = quotation.at in
     let size = length quotation.text in
-    good_hosted (λ address s. IsSettled 8192 mid.host.tokens mid.host → TextLaid mid size address s) (ItemRead from) mid.count mid (checked (string_laid quotation.text mid.host)) _
-    (after_if (IsSettled 8192 mid.host.tokens mid.host) (TextLaid mid size) (checked (string_laid quotation.text mid.host)) (λ settled. (keeps_of keep mid settled).texts quotation.text))
+    good_hosted (λ address s. IsSound mid.host → TextLaid mid size address s) (ItemRead from) mid.count mid (checked (string_laid quotation.text mid.host)) _
+    (after_if (IsSound mid.host) (TextLaid mid size) (checked (string_laid quotation.text mid.host)) (λ sound. (keeps_of keep mid.host sound).texts quotation.text))
     (λ address s h.
     let laid = record mid { host = s } in
     single_read mid.count (entry_of (quoting_word kind)).weight (Text kind address size) from laid (goes_then from mid laid q.goes (same_goes mid s)) refl refl
     (λ N b.
-    let inside = (h (q.keeps.knows N b.knows).settled).1 in
-    kept_ready N (entry_of (quoting_word kind)).weight (Text kind address size) from laid (keeps_then from mid laid q.keeps (settles_keeps mid s (λ settled. (h settled).0)))
+    let inside = (h (q.keeps.knows N b.knows).sound).1 in
+    kept_ready N (entry_of (quoting_word kind)).weight (Text kind address size) from laid (keeps_then from mid laid q.keeps (settles_keeps mid s (λ sound. (h sound).0)))
     (quoting_weight kind) (and_from _ _ (and_from _ _ (lt-ltb address 32768 (omega (arith, inside))) (lt-ltb size 32768 (omega (arith, inside)))) refl) b.knows)))
 
 -- LITERAL
 literal_read : (keep : HostWordsKeep) (from : ParserState) → Good (ItemRead from) (literal_at from)
 literal_read keep from =
-    good_hosted (λ x s. IsSettled 8192 from.host.tokens from.host → IsSettled 8192 from.host.tokens s × (x < 65536)) (ItemRead from) from.count from (pop from.host) _
-    (after_if (IsSettled 8192 from.host.tokens from.host) (λ x s. IsSettled 8192 from.host.tokens s × (x < 65536)) (pop from.host) (λ settled. (keeps_of keep from settled).taken))
+    good_hosted (λ x s. IsSound from.host → Leads from.host s × (x < 65536)) (ItemRead from) from.count from (pop from.host) _
+    (after_if (IsSound from.host) (λ x s. Leads from.host s × (x < 65536)) (pop from.host) (λ sound. (keeps_of keep from.host sound).taken))
     (λ x s h.
     let taken = record from { host = s } in
     single_read from.count 2 (Literal x) from taken (same_goes from s) refl refl
-    (λ N b. kept_ready N 2 (Literal x) from taken (settles_keeps from s (λ settled. (h settled).0)) refl (and_from _ _ (lt-ltb x 65536 (h b.knows.settled).1) refl) b.knows))
+    (λ N b. kept_ready N 2 (Literal x) from taken (settles_keeps from s (λ sound. (h sound).0)) refl (and_from _ _ (lt-ltb x 65536 (h b.knows.sound).1) refl) b.knows))
 
 -- [']
 ticked_read : (from : ParserState) (named : Named) (found : Result Ticked SourceCause) → SpelledRead from named → ((N : ℕ) → Knows N from → IsTicked N found) → Good (ItemRead from) (ticked_as from.count named found)
@@ -227,10 +227,10 @@ ticked_read from named (Ok one) s i =
     let same : ticks named.at ≡ ticks from = ap (λ (tokens : List Ticked). tokens_weight (token_nodes tokens)) (s.passed.keeps.ticked N b.knows) in
     let paid : 2 ≤ tick_weight one token.1 = tick_paid one token.1 in
     record {
-      read = and_from _ _ (lt-ltb token.0 65536 (omega (arith, h.number, k.few, k.light))) refl;
+      read = and_from _ _ (lt-ltb token.0 65536 (omega (arith, h.number, k.few, k.light, most_small named.at.host.space.data_start k.sound.start))) refl;
       others = k.others;
       ticked = h.ticked N k.ticked (i N b.knows);
-      settled = h.settled k.settled;
+      sound = h.sound k.sound;
       few = omega (arith, h.few, k.few, paid);
       cost = omega (arith, h.weight, same);
     }))

@@ -14,7 +14,7 @@ use Rattle.control_flow.specs.declared.nest.Ending.TheVariants as ending
 use Rattle.control_flow.specs.declared.nest.Step.TheVariants.{Gone, Becomes}
 use Rattle.control_flow.specs.Nest.{with_open, open_of, step_of, stepped, nest_ended, is_do, is_inside_do}
 use Rattle.control_flow.specs.Sense.{opening_word, ending_word}
-use Rattle.control_flow.specs.ParseResult.{ParserState, ParseResult, Fine, Refused, NotBuilt, Endless, ◌>>=◌, weighed_as, weighed}
+use Rattle.control_flow.specs.ParseResult.{ParserState, ParseResult, Fine, Refused, NotBuilt, Endless, ◌>>=◌, most_weight, weighed_as, weighed}
 use Rattle.control_flow.specs.Items.{nested, opened_at, ended_at}
 
 -- the fuel is not spent, and a value is such
@@ -44,19 +44,19 @@ pub record Moves (w : ℕ) (from at : ParserState) : Type 0 where
   pub entries : at.entries ≡ from.entries
   pub definitions : at.definitions ≡ from.definitions
   pub weight : at.weight ≡ from.weight + w
-  pub light : at.weight ≤ 2400
+  pub light : at.weight ≤ most_weight at
   pub count : at.count ≡ from.count
   pub rest : at.rest ≡ from.rest
   pub host : at.host ≡ from.host
 
-weighs_on : (number w : ℕ) (from at : ParserState) (fits : Bool) → nat_le (at.weight + w) 2400 ≡ fits → from ≡ record at { nest = from.nest } →
+weighs_on : (number w : ℕ) (from at : ParserState) (fits : Bool) → nat_le (at.weight + w) (most_weight at) ≡ fits → from ≡ record at { nest = from.nest } →
     Good (λ x. Moves w from x × (x.nest ≡ at.nest)) (elim fits [ true ↦ Fine (record at { weight = at.weight + w }) | false ↦ Refused number cause.CodeFull ])
 weighs_on number w from at true e s = (
   record {
     entries = sym (ap (λ (p : ParserState). p.entries) s);
     definitions = sym (ap (λ (p : ParserState). p.definitions) s);
     weight = ap (λ n. n + w) (sym (ap (λ (p : ParserState). p.weight) s));
-    light = leb-true (at.weight + w) 2400 e;
+    light = leb-true (at.weight + w) (most_weight at) e;
     count = sym (ap (λ (p : ParserState). p.count) s);
     rest = sym (ap (λ (p : ParserState). p.rest) s);
     host = sym (ap (λ (p : ParserState). p.host) s);
@@ -66,12 +66,12 @@ weighs_on number w from at true e s = (
 weighs_on number w from at false e s = tt
 
 pub weighs : (number w : ℕ) (at : ParserState) → Good (λ x. Moves w at x × (x.nest ≡ at.nest)) (weighed_as number w at)
-weighs number w at = weighs_on number w at at (nat_le (at.weight + w) 2400) refl refl
+weighs number w at = weighs_on number w at at (nat_le (at.weight + w) (most_weight at)) refl refl
 
 nests : (w : ℕ) (at : ParserState) (r : Result (List Open) SourceCause) → Good (λ x. Moves w at x × (r ≡ Ok x.nest)) (nested at r >>= weighed w)
 nests w at (Ok nest) =
     good_weaker (λ x. Moves w at x × (x.nest ≡ nest)) (λ x. Moves w at x × (Ok nest ≡ Ok x.nest)) (λ x m. (m.0, ap Ok (sym m.1))) (weighed w (record at { nest = nest }))
-    (weighs_on at.count w at (record at { nest = nest }) (nat_le (at.weight + w) 2400) refl refl)
+    (weighs_on at.count w at (record at { nest = nest }) (nat_le (at.weight + w) (most_weight at)) refl refl)
 nests w at (Err c) = tt
 
 open_on : (o : Open) (nest new : List Open) (t : Bool) → elim t as (λ t. Result (List Open) SourceCause) [ true ↦ Ok (o ∷ nest) | false ↦ Err cause.TooDeep ] ≡ Ok new → new ≡ o ∷ nest

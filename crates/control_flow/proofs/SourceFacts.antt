@@ -18,7 +18,6 @@ use Rattle.host_state.specs.declared.entry.Entry.{Entry}
 use Rattle.host_state.specs.declared.entry.Known.{Known}
 use Rattle.host_state.specs.declared.entry.Known.TheVariants as known
 use Rattle.host_state.specs.declared.entry.Ticked.{Ticked}
-use Rattle.host_state.specs.FirstImage.{image_of}
 use Rattle.host_state.specs.Kept.{HostWordsKeep, ImagesFit, SpacesBegin}
 use Rattle.control_flow.specs.declared.refusal.SourceCause.TheVariants as cause
 use Rattle.control_flow.specs.declared.nest.Ending.{Ending}
@@ -35,7 +34,7 @@ use Rattle.control_flow.specs.SourceLaw.{is_plain, is_read, is_read_token, IsSou
 use Rattle.control_flow.proofs.Readings.{Passes, next_passes}
 use Rattle.control_flow.proofs.Senses.{IsKnown, newest_below, below_more}
 use Rattle.control_flow.proofs.Moves.{Good, good_then, good_is, outermost}
-use Rattle.control_flow.proofs.HostFacts.{ticks, Knows, Bounded, knows_wider, Passed}
+use Rattle.control_flow.proofs.HostFacts.{ticks, most_small, Knows, Bounded, knows_wider, Passed}
 use Rattle.control_flow.proofs.ItemFacts.{passed_on, SpelledRead, spelled_read, ItemsRead, TokenRead, token_read, items_from_read}
 
 -- ---- a wider test
@@ -217,7 +216,7 @@ module _ (keep : HostWordsKeep) (source : Source) (so_far : SourceRead source) (
                   below_more N end.entries (pair named.name (record { number = length end.entries; known = known.Definition end.definitions })) x.knows.others
                   (omega (arith, more, d, so_far.counted));
               ticked = x.knows.ticked;
-              settled = x.knows.settled;
+              sound = x.knows.sound;
               few = x.knows.few;
               light = x.knows.light;
             };
@@ -274,28 +273,26 @@ module _ (source : Source) (so_far : SourceRead source) (at : ParserState) (es :
   is_source_of main h =
       let N : ℕ = length source.bodies in
       let k = so_far.knows in
-      let start : source.at.host.space.data_start ≡ 8192 = k.settled.host.start in
-      let image = fit 8192 source.at.host.tokens source.at.host refl (omega arith) k.settled in
+      let image = fit source.at.host.space.data_start source.at.host.tokens source.at.host k.sound.start.is_even k.sound.start.at_most k.sound.settled in
       record {
         form = record {
           named = so_far.names;
           few_bodies = omega (arith, so_far.few);
-          few_tokens = omega (arith, as_many source.at.host.tokens, k.few, k.light);
+          few_tokens = omega (arith, as_many source.at.host.tokens, k.few, k.light, most_small source.at.host.space.data_start k.sound.start);
           main_in_range = h;
           ids_in_range = all_wider (is_read N) (has_id_below N) (read_id N) source.bodies so_far.items;
           token_ids_in_range = each_wider (is_read_token N) (has_id_below N) (token_id N) (token_nodes source.at.host.tokens) k.ticked;
           leaves_in_loops = so_far.leaves;
           words_allowed = all_wider (is_read N) may_stand (read_stands N) source.bodies so_far.items;
           tokens_allowed = each_wider (is_read_token N) may_be_token (token_stands N) (token_nodes source.at.host.tokens) k.ticked;
-          data_start = subst (λ n. IsDataStart n) (sym start) (record { is_even = refl; at_least = omega arith; at_most = omega arith });
-          space_fits = subst (λ n. length (image_of source.at.host.space) ≤ 16384 - n) (sym start) image.1;
+          data_start = k.sound.start;
+          space_fits = image.1;
         };
         few = so_far.few;
         items = so_far.items;
         token_items = k.ticked;
         light = omega (arith, so_far.weight, k.light);
         counted = omega (arith, so_far.tokens, c);
-        version_1 = start;
         bytes = image.0;
         calls_back = so_far.back;
       }
@@ -345,13 +342,16 @@ pub record HostLaws : Type 0 where
   pub fit : ImagesFit
   pub begin : SpacesBegin
 
+first_start : IsDataStart 8192
+first_start = record { is_even = refl; at_least = omega arith; at_most = omega arith }
+
 started_read : SpacesBegin → (text : List ℕ) → SourceRead (source_start text)
 started_read begin text = record {
   counted = refl;
   names = refl;
   entries = refl;
   few = omega arith;
-  knows = record { others = tt; ticked = refl; settled = begin 8192 [] [] refl (omega arith) tt; few = omega arith; light = omega arith };
+  knows = record { others = tt; ticked = refl; sound = record { start = first_start; settled = begin 8192 [] [] refl (omega arith) tt }; few = omega arith; light = omega arith };
   nest = refl;
   items = refl;
   back = refl;

@@ -21,10 +21,11 @@ parser_state c = record {
   host = c.host;
 }
 
--- a parser that can go on: its reader has refused nothing, the weights are within the limit, and HERE is in data space
+-- a parser that can go on: its reader has refused nothing, the weights are within the limit of the last data start, and HERE is in
+-- data space
 pub record IsReadyParser (c : Parser) : Type 0 where
   pub sound : c.reader.failed ≡ None
-  pub light : c.weight ≤ 2400
+  pub light : c.weight ≤ 6304
   pub settled : is_here_within c.host.space ≡ true
 
 -- what is read so far

@@ -1,5 +1,5 @@
 -- Places of a source text, and what reading from one gives.
-use Rattle.std.specs.Prelude.{ℕ, ◌+◌, nat_le, true, false, List}
+use Rattle.std.specs.Prelude.{ℕ, ◌+◌, ◌-◌, ◌/◌, nat_le, true, false, List}
 use Rattle.forth_reader.specs.declared.refusal.ReadCause.{ReadCause}
 use Rattle.forth_reader.specs.declared.refusal.ReadCause.TheVariants as read
 use Rattle.dictionary_core.specs.Pairs.{Pair}
@@ -60,9 +60,13 @@ abbrev pub hosted_as : {A B : Type 0} → ℕ → ParserState → Reply A → (A
 hosted_as number at (Gives x s) next = next x (record at { host = s })
 hosted_as number at (Refuses c) next = Refused number (host_cause c)
 
--- the place with the weight more of the token with a number; the sum of all weights is at most 2,400
+-- what all definitions weigh at most: the cells in front of data space, without 1,696 for the library and the start of the code
+abbrev pub most_weight : ParserState → ℕ
+most_weight at = at.host.space.data_start / 2 - 1696
+
+-- the place with the weight more of the token with a number, within the limit
 abbrev pub weighed_as : ℕ → ℕ → ParserState → ParseResult ParserState
-weighed_as number weight at = elim (nat_le (at.weight + weight) 2400) [
+weighed_as number weight at = elim (nat_le (at.weight + weight) (most_weight at)) [
   | true ↦ Fine (record at { weight = at.weight + weight })
   | false ↦ Refused number cause.CodeFull
 ]

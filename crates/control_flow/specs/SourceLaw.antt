@@ -1,5 +1,5 @@
 -- What holds of each source text, and of the program of each.
-use Rattle.std.specs.Prelude.{◌≡◌, ℕ, ◌+◌, ◌<◌, ◌≤◌, nat_lt, Bool, true, false, ◌&&◌, List, length}
+use Rattle.std.specs.Prelude.{◌≡◌, ℕ, ◌+◌, ◌-◌, ◌/◌, ◌<◌, ◌≤◌, nat_lt, Bool, true, false, ◌&&◌, List, length}
 use Rattle.std.specs.List.{All, list_all}
 use Rattle.word_table.specs.declared.word.Word.{Word}
 use Rattle.word_table.specs.declared.word.Word.TheVariants.{ToR, RFrom, RFetch, Index, OuterIndex, Unloop}
@@ -57,9 +57,8 @@ pub record IsSource (program : SourceProgram) : Type 0 where
   pub few : length program.bodies ≤ 512
   pub items : list_all (everywhere (is_read (length program.bodies))) program.bodies ≡ true
   pub token_items : list_all (is_read_token (length program.bodies)) program.tokens ≡ true
-  pub light : bodies_weight program.bodies + tokens_weight program.tokens ≤ 2400
+  pub light : bodies_weight program.bodies + tokens_weight program.tokens ≤ program.data_start / 2 - 1696
   pub counted : all_tokens program.bodies ≤ program.source_tokens
-  pub version_1 : program.data_start ≡ 8192
   pub bytes : All (λ byte. byte < 256) program.first_space
   -- each call leads to the definition in which it stands, or to one before it
   pub calls_back : calls_go_back 0 program.bodies ≡ true

@@ -18,9 +18,6 @@ use forth_reader::Reader;
 use host_state::{Entry, HostState};
 use word_table::entry;
 
-/// What all definitions may weigh.
-const MOST_WEIGHT: u32 = 2400;
-
 /// A place in a source, and what the source has come to.
 #[derive(Drop)]
 pub(crate) struct Parser<'a> {
@@ -38,14 +35,16 @@ pub(crate) struct Parser<'a> {
 }
 
 impl<'a> Parser<'a> {
-    /// Adds the weight of a token. CodeFull comes where the sum then passes the limit.
+    /// Adds the weight of a token. CodeFull comes where the sum then passes the limit: the cells in front of data space, without
+    /// 1,696.
     pub(crate) fn weigh_as(&mut self, number: u32, weight: u16) -> Result<(), SourceError>
         requires { IsReadyParser self.old }
         ensures gives { AnswersAs (λ _. parser_state self.new) result (weighed_as number weight (parser_state self.old)) }
         ensures same { length self.new.reader.rest ≡ length self.old.reader.rest }
         ensures ready { OnOk result (IsReadyParser self.new) }
     {
-        if self.weight + u32::from(weight) > MOST_WEIGHT {
+        let most = u32::from(self.host.data_start() / 2 - 1696);
+        if self.weight + u32::from(weight) > most {
             return refused(number, SourceCause::CodeFull);
         }
         self.weight += u32::from(weight);

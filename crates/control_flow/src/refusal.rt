@@ -42,7 +42,7 @@ pub enum SourceCause {
     TooManyWords,
     /// Data space is full, or an access is outside of it.
     DataFull,
-    /// At this token the sum of the weights first passes 2,400.
+    /// At this token the sum of the weights first passes the limit: half the data start, without 1,696. At 8192 that is 2,400.
     CodeFull,
     /// The text ends inside a definition.
     OpenDefinition,

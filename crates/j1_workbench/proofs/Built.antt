@@ -1,5 +1,5 @@
 -- Each program of a text can be laid out.
-use Rattle.std.proofs.Common.{◌≡◌, ℕ, ◌+◌, ◌≤◌, ◌/◌, IsTrue, Bool, true, false, ◌&&◌, List, [], ◌∷◌, length, refl, ap, arith}
+use Rattle.std.proofs.Common.{◌≡◌, ℕ, ◌+◌, ◌≤◌, IsTrue, Bool, true, false, ◌&&◌, List, [], ◌∷◌, length, refl, arith}
 use Rattle.std.specs.List.{list_all}
 use Rattle.std.proofs.lemmas.Bool.{and_from, and_parts}
 use Rattle.word_table.specs.declared.word.Word.{Word}
@@ -74,7 +74,6 @@ tokens_light light count (node ∷ nodes) e =
 source_built : TestsWiden → CodeIsLight → TokensAreLight → bodies_size whole_library ≡ 814 → (p : SourceProgram) → IsSource p → IsBuilt whole_library p
 source_built widen light tokens size p s =
     let laid : list_all (everywhere (is_laid_out true 42 (length p.bodies))) p.bodies ≡ true = widen (is_read (length p.bodies)) (is_laid_out true 42 (length p.bodies)) (read_laid (length p.bodies)) p.bodies s.items in
-    let half : p.data_start / 2 ≡ 4096 = ap (λ n. n / 2) s.version_1 in
     let token_items = tokens_laid (length p.bodies) p.tokens s.token_items in
     record {
       has_main = s.form.main_in_range;
@@ -82,7 +81,7 @@ source_built widen light tokens size p s =
       token_items = token_items;
       leaves_in_loops = s.form.leaves_in_loops;
       data_start = s.form.data_start;
-      code_fits = omega (arith, light whole_library p laid, size, s.light, half, tokens_light tokens (length p.bodies) p.tokens token_items);
+      code_fits = omega (arith, light whole_library p laid, size, s.light, s.form.data_start.at_least, tokens_light tokens (length p.bodies) p.tokens token_items);
       tokens_counted = s.counted;
     }
 

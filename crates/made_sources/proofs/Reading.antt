@@ -138,23 +138,23 @@ below_range seed place = omega arith
 
 module _ (next : NextIsComputed) (names : NameIsComputed) where
   number_items : (n v place : ℕ) (at : ParserState) (more : List ℕ) → at.rest ≡ number_text v more → v < 65536 → at.entries ≡ entries_to place → place ≤ 200 →
-      sense_in at.entries (base_at at) (decimal v) ≡ number_sense (Value v) → at.nest ≡ [] → at.weight ≤ 2390 →
+      sense_in at.entries (base_at at) (decimal v) ≡ number_sense (Value v) → at.nest ≡ [] → at.host.space.data_start ≡ 8192 → at.weight ≤ 2390 →
       items_at (suc (suc (suc n))) at ≡ Fine
       (record { nodes = number_body v; ending = ending.Semicolon; at = record at { rest = 10 ∷ more; count = at.count + 1 + 1 + 1; nest = []; weight = at.weight + 2 + operation_weight v + 1 } })
-  number_items n v place at more text h entries small is outside light =
+  number_items n v place at more text h entries small is outside start light =
       let a = behind at (32 ∷ (operation (v % 4) ++ (32 ∷ 59 ∷ 10 ∷ more))) in
       let b = behind (record a { weight = a.weight + 2 }) (32 ∷ 59 ∷ 10 ∷ more) in
       let c = behind (record b { weight = b.weight + operation_weight v }) (10 ∷ more) in
       let o = light_operation (v % 4) in
       item_then (suc (suc n)) at a (decimal v) 2 (Literal v) _
       (token_is next names at (decimal v) (32 ∷ (operation (v % 4) ++ (32 ∷ 59 ∷ 10 ∷ more))) text (number_token v h) refl)
-      (λ go m. number_item at a (decimal v) go m v is) (omega (arith, light))
+      (λ go m. number_item at a (decimal v) go m v is) (omega (arith, start, light))
       (item_then (suc n) (record a { weight = a.weight + 2 }) b (operation (v % 4)) (operation_weight v) (Plain (operation_word (v % 4))) _
       (token_is next names (record a { weight = a.weight + 2 }) (operation (v % 4)) (32 ∷ 59 ∷ 10 ∷ more) refl (operation_token (v % 4)) refl)
-      (λ go m. operation_item (v % 4) place (record a { weight = a.weight + 2 }) b go m entries small) (omega (arith, light, o))
+      (λ go m. operation_item (v % 4) place (record a { weight = a.weight + 2 }) b go m entries small) (omega (arith, start, light, o))
       (items_end n (record b { weight = b.weight + operation_weight v }) c
       (token_is next names (record b { weight = b.weight + operation_weight v }) (59 ∷ []) (10 ∷ more) refl end_token refl)
-      (unknown (record b { weight = b.weight + operation_weight v }) (59 ∷ []) place entries small refl) outside (omega (arith, light, o))))
+      (unknown (record b { weight = b.weight + operation_weight v }) (59 ∷ []) place entries small refl) outside (omega (arith, start, light, o))))
 
   -- one definition more
   definition_read : (n seed place : ℕ) (rest more : List ℕ) → place < 200 →
@@ -175,7 +175,7 @@ module _ (next : NextIsComputed) (names : NameIsComputed) where
       (definable_is (record { name = made_name (place + 1); at = named }) (name_is_no_word (place + 1) (omega arith)) (omega (arith, few)))
       (token_is next names named (decimal v) (32 ∷ (operation (v % 4) ++ (32 ∷ 59 ∷ 10 ∷ more))) refl (number_token v (below_range seed place)) refl)
       (ap is_create is)
-      (number_items (suc n) v place named more refl (below_range seed place) refl (omega arith) is refl (omega (arith, light)))
+      (number_items (suc n) v place named more refl (below_range seed place) refl (omega arith) is refl refl (omega (arith, light)))
       ∙ ap (λ d. source_at (suc (suc (suc n))) (source_with seed (suc place) d (10 ∷ more))) (add-one place)
 
 -- ---- all definitions
@@ -223,9 +223,9 @@ module _ (next : NextIsComputed) (names : NameIsComputed) where
   -- the calls of MAIN and its print
   calls_read : (count definition last k : ℕ) (at : ParserState) (tokens weight : ℕ) → at.rest ≡ calls count (definition + 1) ++ print_text → at.entries ≡ entries_to last → definition + count ≡ last → last ≤ 200 →
       at.nest ≡ [] →
-      at.weight + count ≤ 2390 → tokens ≡ at.count + count + 2 → weight ≡ at.weight + count + 2 →
+      at.host.space.data_start ≡ 8192 → at.weight + count ≤ 2390 → tokens ≡ at.count + count + 2 → weight ≡ at.weight + count + 2 →
       items_at (suc (suc (more_fuel count k))) at ≡ Fine (record { nodes = calls_and_print count definition; ending = ending.Semicolon; at = record at { rest = 10 ∷ []; count = tokens; nest = []; weight = weight } })
-  calls_read zero definition last k at tokens weight text entries sum small outside light counted weighed =
+  calls_read zero definition last k at tokens weight text entries sum small outside start light counted weighed =
       let a = behind at (32 ∷ 59 ∷ 10 ∷ []) in
       let b = record a { weight = a.weight + 1 } in
       let c = behind b (10 ∷ []) in
@@ -233,18 +233,18 @@ module _ (next : NextIsComputed) (names : NameIsComputed) where
       let w : at.weight + 1 + 1 ≡ weight = omega arith in
       item_then (suc k) at a (codes "U.") 1 (Plain word.UDot) _
       (token_is next names at (codes "U.") (32 ∷ 59 ∷ 10 ∷ []) text (is_token (codes "U.") (omega arith) (omega arith) refl refl refl) refl)
-      (λ go m. word_item at a (codes "U.") go m word.UDot 1 (unknown at (codes "U.") last entries small refl) refl) (omega (arith, light))
-      (items_end k b c (token_is next names b (59 ∷ []) (10 ∷ []) refl end_token refl) (unknown b (59 ∷ []) last entries small refl) outside (omega (arith, light)))
+      (λ go m. word_item at a (codes "U.") go m word.UDot 1 (unknown at (codes "U.") last entries small refl) refl) (omega (arith, start, light))
+      (items_end k b c (token_is next names b (59 ∷ []) (10 ∷ []) refl end_token refl) (unknown b (59 ∷ []) last entries small refl) outside (omega (arith, start, light)))
       ∙ ap (λ t. Fine (record { nodes = calls_and_print zero definition; ending = ending.Semicolon; at = record at { rest = 10 ∷ []; count = t; nest = []; weight = at.weight + 1 + 1 } })) t
       ∙ ap (λ w. Fine (record { nodes = calls_and_print zero definition; ending = ending.Semicolon; at = record at { rest = 10 ∷ []; count = tokens; nest = []; weight = w } })) w
-  calls_read (suc count) definition last k at tokens weight text entries sum small outside light counted weighed =
+  calls_read (suc count) definition last k at tokens weight text entries sum small outside start light counted weighed =
       let a = behind at (calls count (definition + 1 + 1) ++ print_text) in
       let b = record a { weight = a.weight + 1 } in
       item_then (suc (suc (more_fuel count k))) at a (made_name (definition + 1)) 1 (Call definition) _
       (token_is next names at (made_name (definition + 1)) (calls count (definition + 1 + 1) ++ print_text) (text ∙ call_text count (definition + 1)) (name_token (definition + 1) (omega arith))
       (calls_follow count (definition + 1 + 1)))
-      (λ go m. call_item at a (made_name (definition + 1)) go m definition (ap (λ e. newest_value e (made_name (definition + 1))) entries ∙ found definition last small (omega arith))) (omega (arith, light))
-      (calls_read count (definition + 1) last k b tokens weight refl entries (omega arith) small outside (omega (arith, light)) (omega (arith, counted)) (omega (arith, weighed)))
+      (λ go m. call_item at a (made_name (definition + 1)) go m definition (ap (λ e. newest_value e (made_name (definition + 1))) entries ∙ found definition last small (omega arith))) (omega (arith, start, light))
+      (calls_read count (definition + 1) last k b tokens weight refl entries (omega arith) small outside start (omega (arith, light)) (omega (arith, counted)) (omega (arith, weighed)))
 
   -- MAIN, and then the end of the text
   main_read : (seed count k : ℕ) (rest : List ℕ) → count ≤ 200 → next_from (count_to count) rest ≡ next_from (count_to count) (codes ": MAIN 1" ++ (calls count 1 ++ print_text)) →
@@ -274,7 +274,7 @@ module _ (next : NextIsComputed) (names : NameIsComputed) where
       ∙ item_then (suc (suc (more_fuel count (suc k)))) named one (codes "1") 2 (Literal 1) _
       read
       (λ go m. number_item named one (codes "1") go m 1 is) (omega (arith, light))
-      (calls_read count 0 count (suc k) b (b.count + count + 2) (b.weight + count + 2) refl refl (omega arith) small refl (omega (arith, light)) refl refl))
+      (calls_read count 0 count (suc k) b (b.count + count + 2) (b.weight + count + 2) refl refl (omega arith) small refl refl (omega (arith, light)) refl refl))
       ∙ ap (λ main. elim (main_of main) [ Some m ↦ Fine (program_with (names_to count ++ codes "MAIN" ∷ []) (bodies_to seed count ++ nodes ∷ []) m after.count first_host) | None ↦ Refused (after.count + 1) cause.NoMain ])
       (newest_behind (entries_to count) (pair (codes "MAIN") (made_entry count)) (codes "MAIN"))
       ∙ ap (λ t. Fine (program_with (names_to count ++ codes "MAIN" ∷ []) (bodies_to seed count ++ nodes ∷ []) count t first_host)) t

@@ -14,7 +14,7 @@ use Rattle.forth_reader.specs.Reading.{Reads, may_follow_token, next_from, name_
 use Rattle.forth_reader.specs.Splitting.{Blank, is_read, run, NextIsComputed, NameIsComputed}
 use Rattle.dictionary_core.specs.Pairs.{newest_value}
 use Rattle.control_flow.specs.declared.nest.Ending.TheVariants as ending
-use Rattle.control_flow.specs.ParseResult.{ParserState, ParseResult, Fine, ◌>>=◌, weighed_as, weighed}
+use Rattle.control_flow.specs.ParseResult.{ParserState, ParseResult, Fine, ◌>>=◌, most_weight, weighed_as, weighed}
 use Rattle.control_flow.specs.Nest.{nest_ended}
 use Rattle.control_flow.specs.Sense.{number_sense, sense_by, sense_in}
 use Rattle.control_flow.specs.ReadTokens.{base_at, read_token_of, token_at, spelled_of, spelled_at}
@@ -97,8 +97,8 @@ module _ (next : NextIsComputed) (names : NameIsComputed) where
 
 -- ---- items
 
-pub weighs : (number weight : ℕ) (at : ParserState) → at.weight + weight ≤ 2400 → weighed_as number weight at ≡ Fine (record at { weight = at.weight + weight })
-weighs number weight at light = rw (le-leb (at.weight + weight) 2400 light, weighed_as) refl
+pub weighs : (number weight : ℕ) (at : ParserState) → at.weight + weight ≤ most_weight at → weighed_as number weight at ≡ Fine (record at { weight = at.weight + weight })
+weighs number weight at light = rw (le-leb (at.weight + weight) (most_weight at) light, weighed_as) refl
 
 abbrev one_with : Node → ParserState → ParseResult One
 one_with node after = Fine (record { node = node; at = after })
@@ -113,7 +113,7 @@ ended after = Fine (record { nodes = Empty; ending = ending.Semicolon; at = afte
 pub item_then : (n : ℕ) (at seen : ParserState) (token : List ℕ) (weight : ℕ) (node : Node) (many : Many) →
     token_at at ≡ Fine (record { sense = sense_in at.entries (base_at at) token; at = seen }) →
     ((go : ParserState → ParseResult Many) (m : ℕ) → items_by go m seen (sense_in at.entries (base_at at) token) ≡ then_items go (alone weight node seen)) →
-    seen.weight + weight ≤ 2400 → items_at n (record seen { weight = seen.weight + weight }) ≡ Fine many →
+    seen.weight + weight ≤ most_weight seen → items_at n (record seen { weight = seen.weight + weight }) ≡ Fine many →
     items_at (suc n) at ≡ Fine (record many { nodes = Then node many.nodes })
 unfolding items_at
 item_then n at seen token weight node many read stands light rest =
@@ -123,7 +123,7 @@ item_then n at seen token weight node many read stands light rest =
     ∙ ap (λ r. r >>= many_with node) rest
 
 -- the end of a definition, where no definition is named `;`
-pub items_end : (n : ℕ) (at seen : ParserState) → token_at at ≡ Fine (record { sense = sense_in at.entries (base_at at) (59 ∷ []); at = seen }) → newest_value at.entries (59 ∷ []) ≡ None → seen.nest ≡ [] → seen.weight + 1 ≤ 2400 →
+pub items_end : (n : ℕ) (at seen : ParserState) → token_at at ≡ Fine (record { sense = sense_in at.entries (base_at at) (59 ∷ []); at = seen }) → newest_value at.entries (59 ∷ []) ≡ None → seen.nest ≡ [] → seen.weight + 1 ≤ most_weight seen →
     items_at (suc n) at ≡ Fine (record { nodes = Empty; ending = ending.Semicolon; at = record seen { nest = []; weight = seen.weight + 1 } })
 unfolding items_at
 items_end n at seen read none outside light =
