@@ -7,7 +7,7 @@ use Rattle.control_flow.specs.declared.refusal.SourceError.{SourceError}
 use Rattle.control_flow.specs.declared.refusal.SourceCause.TheVariants as cause
 use Rattle.control_flow.specs.declared.nest.Ending.{Ending}
 use Rattle.control_flow.specs.declared.nest.Ending.TheVariants as ending
-use Rattle.control_flow.specs.ParseResult.{ParserState, ParseResult, Fine, Refused, NotBuilt, Endless, ◌>>=◌}
+use Rattle.control_flow.specs.ParseResult.{ParserState, ParseResult, Fine, Refused, Endless, ◌>>=◌}
 use Rattle.control_flow.specs.Items.{One, Many, Cases, body_at, with_arm, arms_by, arms_at}
 use Rattle.control_flow.specs.Answers.{FailsAs}
 use Rattle.control_flow.proofs.ItemLists.{fails_then, fails_as, longer}
@@ -86,7 +86,6 @@ module _ (whole : ParseResult Cases) (done : List (Items × Items)) (go : Parser
           pushed : (o : ParseResult Cases) → behind_arms done (o >>= λ cases. Fine (with_arm (tree_of tests) (tree_of body) cases)) ≡ behind_arms (done ++ (tests, body) ∷ []) o
           pushed (Fine cases) = ap (λ arms. Fine (record cases { arms = arms })) (joined_arm done tests body cases.arms)
           pushed (Refused k c) = refl
-          pushed NotBuilt = refl
           pushed Endless = refl
 
 pub one_arm_more : (old new : List (Items × Items)) (arm : Items × Items) (go : ParserState → ParseResult Many) (m : ℕ) (at : ParserState) → new ≡ old ++ arm ∷ [] →

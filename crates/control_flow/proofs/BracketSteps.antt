@@ -4,11 +4,23 @@ use Rattle.host_state.specs.declared.word.HostItem.{HostItem}
 use Rattle.control_flow.specs.declared.refusal.SourceError.{SourceError}
 use Rattle.control_flow.specs.declared.host_sense.HostSense.{HostSense}
 use Rattle.control_flow.specs.declared.host_sense.HostSense.TheVariants.{Acts}
-use Rattle.control_flow.specs.ParseResult.{ParserState, ParseResult, Fine, ◌>>=◌}
-use Rattle.control_flow.specs.ReadTokens.{HostToken, host_token_at}
-use Rattle.control_flow.specs.Brackets.{acted_at, bracket_by, bracket_at}
+use Rattle.control_flow.specs.ParseResult.{ParserState, ParseResult, Fine, Refused, Endless, ◌>>=◌}
+use Rattle.control_flow.specs.declared.refusal.SourceError.TheVariants as error
+use Rattle.control_flow.specs.declared.refusal.SourceCause.{SourceCause}
+use Rattle.control_flow.specs.ReadTokens.{HostToken, host_token_at, Quotation, quotation_at}
+use Rattle.control_flow.specs.Brackets.{acted_at, quoted_at, bracket_by, bracket_at}
 use Rattle.control_flow.specs.Answers.{FailsAs}
 use Rattle.control_flow.proofs.ItemLists.{fails_then, fails_as}
+
+quoted_on : (B : Type 0) (e : SourceError) (c : SourceCause) (o : ParseResult Quotation) → FailsAs {B = Unit {0}} e (o >>= λ q. Refused q.at.count c) → FailsAs {B = B} e (o >>= λ q. Refused q.at.count c)
+quoted_on B error.OutOfMemory c o f = tt
+quoted_on B (error.Refused r) c (Fine q) f = cc
+quoted_on B (error.Refused r) c (Refused k d) f = cc
+quoted_on B (error.Refused r) c Endless f = absurd cc
+
+-- a string word is refused alike wherever it stands
+pub quoted_fails : (B : Type 0) (e : SourceError) (c : SourceCause) (at : ParserState) → FailsAs {B = Unit {0}} e (quoted_at c at) → FailsAs {B = B} e (quoted_at c at)
+quoted_fails B e c at f = quoted_on B e c (quotation_at at) f
 
 abbrev by_host : ℕ → HostToken → ParseResult ParserState
 by_host m seen = bracket_by (bracket_at m) seen.at seen.sense
@@ -39,6 +51,10 @@ module _ (whole : ParseResult ParserState) (at : ParserState) (here : InBracket 
     -- the same, by what the token stands for
     pub with_sense : (t : HostSense) → s ≡ t → whole ≡ bracket_by (bracket_at (here.fuel - 1)) seen t
     with_sense t is = with_host ∙ ap (bracket_by (bracket_at (here.fuel - 1)) seen) is
+
+    -- what the token stands for is refused
+    pub refused_by : (t : HostSense) → s ≡ t → (e : SourceError) → FailsAs e (bracket_by (bracket_at (here.fuel - 1)) seen t) → FailsAs e whole
+    refused_by t is e f = fails_as e _ whole (with_sense t is) f
 
     module _ (item : HostItem) (is : s ≡ Acts item) where
       with_act : whole ≡ (acted_at item seen >>= bracket_at (here.fuel - 1))

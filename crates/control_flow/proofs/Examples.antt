@@ -8,9 +8,10 @@ use Rattle.host_state.specs.declared.entry.Known.TheVariants as known
 use Rattle.host_state.specs.declared.entry.Ticked.TheVariants as ticked
 use Rattle.host_state.specs.HostCells.{Space}
 use Rattle.control_flow.specs.declared.refusal.SourceCause.TheVariants as cause
-use Rattle.control_flow.specs.ParseResult.{Fine, Refused, NotBuilt}
+use Rattle.control_flow.specs.ParseResult.{Fine, Refused}
 use Rattle.control_flow.specs.Brackets.{bracket_at}
 use Rattle.control_flow.specs.Items.{items_at}
+use Rattle.control_flow.specs.HostParts.{host_part_at}
 use Rattle.control_flow.specs.SourceText.{program_with, source_at, first_host, program_of_text}
 
 empty_body : program_of_text (codes ": MAIN ;") ≡ Fine (program_with (codes "MAIN" ∷ []) (Empty ∷ []) 0 3 first_host)
@@ -116,23 +117,22 @@ foreign_byte : program_of_text (codes ": MAIN ." ++ 0 ∷ []) ≡ Refused 3 caus
 unfolding items_at source_at
 foreign_byte = refl
 
--- a token that is not built comes first
-defining_word : program_of_text (codes ": MAIN CREATE X2 ;") ≡ NotBuilt
-unfolding items_at source_at
-defining_word = refl
+unknown_in_part : program_of_text (codes ": MAIN CREATE X2 ;") ≡ Refused 4 cause.UnknownWord
+unfolding items_at host_part_at source_at
+unknown_in_part = refl
 
-word_outside : program_of_text (codes "X : MAIN ;") ≡ NotBuilt
+word_outside : program_of_text (codes "X : MAIN ;") ≡ Refused 1 cause.UnknownWord
 unfolding source_at
 word_outside = refl
 
-word_behind : program_of_text (codes ": MAIN ; X") ≡ NotBuilt
+word_behind : program_of_text (codes ": MAIN ; X") ≡ Refused 4 cause.UnknownWord
 unfolding items_at source_at
 word_behind = refl
 
 -- ---- texts, ticks, brackets and bases
 
 -- data space at first, with other cells behind the fixed ones
-abbrev space_with : ℕ → List ℕ → Space
+abbrev pub space_with : ℕ → List ℕ → Space
 space_with here cells = record { data_start = 8192; cells = 10 ∷ 8288 ∷ here ∷ replicate 61 0 ++ cells }
 
 texts : program_of_text (codes ": MAIN S\" ab\" TYPE .\" c\" ABORT\" \" ;") ≡

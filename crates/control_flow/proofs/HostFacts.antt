@@ -13,8 +13,10 @@ use Rattle.host_state.specs.HostMemory.{checked}
 use Rattle.host_state.specs.Naming.{item_done, ticked_by, tick}
 use Rattle.host_state.specs.Tokens.{is_same, token_from, token_of}
 use Rattle.host_state.specs.Kept.{IsSettled, After, HostKeeps, HostWordsKeep}
+use Rattle.control_flow.specs.declared.refusal.SourceCause.{SourceCause}
+use Rattle.control_flow.specs.declared.refusal.SourceCause.TheVariants as cause
 use Rattle.control_flow.specs.declared.host_sense.HostSense.{HostSense}
-use Rattle.control_flow.specs.declared.host_sense.HostSense.TheVariants.{Acts, Closes, Quoted as QuotedText, OutOfRange, Unknown, Forbidden}
+use Rattle.control_flow.specs.declared.host_sense.HostSense.TheVariants.{Acts, Closes, Ends, Does, Quoted as QuotedText, OutOfRange, Unknown, Forbidden}
 use Rattle.control_flow.specs.ParseResult.{ParserState, ParseResult, Fine, hosted_as, most_weight}
 use Rattle.control_flow.specs.Ticks.{ticked_node, token_nodes, tokens_weight, tick_weight}
 use Rattle.control_flow.specs.ReadTokens.{HostToken, host_token_of, host_token_at, Quotation, quotation_of, quotation_at}
@@ -191,18 +193,18 @@ module _ (keep : HostWordsKeep) where
 
   -- ---- brackets
 
-  record ActedRead (from at : ParserState) : Type 0 where
-    goes : Goes from at
-    keeps : Keeps from at
+  pub record ActedRead (from at : ParserState) : Type 0 where
+    pub goes : Goes from at
+    pub keeps : Keeps from at
 
-  acted_read : (item : HostItem) (from : ParserState) → Good (ActedRead from) (acted_at item from)
+  pub acted_read : (item : HostItem) (from : ParserState) → Good (ActedRead from) (acted_at item from)
   acted_read item from =
       good_hosted (λ _ s. Settles from s) (ActedRead from) from.count from (checked (item_done item from.host)) (λ _ after. Fine after)
       (after_if (IsSound from.host) (λ _ s. Leads from.host s) (checked (item_done item from.host)) (λ sound. (keeps_of from.host sound).items item))
       (λ _ s h. record { goes = same_goes from s; keeps = settles_keeps from s h })
 
-  record HostTokenRead (from : ParserState) (seen : HostToken) : Type 0 where
-    passed : Passed from seen.at
+  pub record HostTokenRead (from : ParserState) (seen : HostToken) : Type 0 where
+    pub passed : Passed from seen.at
 
   host_token_on : (from : ParserState) (reading : Reading) → Passes from.count (length from.rest) reading → Good (HostTokenRead from) (host_token_of from reading)
   host_token_on from (NoMore k) h = tt
@@ -216,11 +218,11 @@ module _ (keep : HostWordsKeep) where
     };
   }
 
-  host_token_read : (from : ParserState) → Good (HostTokenRead from) (host_token_at from)
+  pub host_token_read : (from : ParserState) → Good (HostTokenRead from) (host_token_at from)
   host_token_read from = host_token_on from (next_from from.count from.rest) (next_passes from.count (length from.rest) from.count from.rest (omega arith) (omega arith))
 
-  quoted_read : (from at : ParserState) → Good (Passed from) (quoted_at at)
-  quoted_read from at = good_then (λ _. Unit {0}) (Passed from) (quotation_at at) _ (any_quotation (string_from at.rest)) (λ quotation _. tt)
+  pub quoted_read : {A : Type 0} (P : A → Type 0) (c : SourceCause) (at : ParserState) → Good P (quoted_at c at)
+  quoted_read P c at = good_then (λ _. Unit {0}) P (quotation_at at) _ (any_quotation (string_from at.rest)) (λ quotation _. tt)
     where
       any_quotation : (reading : StringReading) → Good (λ _. Unit {0}) (quotation_of at reading)
       any_quotation (Quoted text rest) = tt
@@ -240,7 +242,9 @@ module _ (keep : HostWordsKeep) where
         good_then (ActedRead at) (Passed from) (acted_at item at) _ (acted_read item at)
         (λ mid a. good_weaker (Passed mid) (Passed from) (λ end q. behind_passed mid end a.goes a.keeps q) (bracket_at n mid) (goes mid (omega (arith, a.goes.left, h))))
     bracket_on Closes = p
-    bracket_on QuotedText = quoted_read from at
+    bracket_on Ends = tt
+    bracket_on Does = tt
+    bracket_on QuotedText = quoted_read (Passed from) cause.NotInDefinition at
     bracket_on OutOfRange = tt
     bracket_on Unknown = tt
     bracket_on Forbidden = tt
@@ -291,12 +295,19 @@ weight_more : (tokens : List Ticked) (one : Ticked) → tokens_weight (token_nod
 weight_more [] one = omega arith
 weight_more (t ∷ ts) one = omega (arith, weight_more ts one)
 
+node_weighs : (node : Node) → 0 < token_weight node
+node_weighs (Literal value) = omega arith
+node_weighs (Plain word) = omega arith
+node_weighs (Call definition) = omega arith
+node_weighs (Child part address) = omega arith
+node_weighs node = omega arith
+
 -- what a tick leaves: the same names, and the token with what it weighs more
 pub record TickRead (from : ParserState) (one : Ticked) (token : ℕ × Bool) (s : Host) : Type 0 where
   pub number : token.0 ≤ length from.host.tokens + 1
   pub sound : IsSound from.host → IsSound s
   pub ticked : (N : ℕ) → list_all (is_read_token N) (token_nodes from.host.tokens) ≡ true → is_read_token N (ticked_node one) ≡ true → list_all (is_read_token N) (token_nodes s.tokens) ≡ true
-  pub few : length s.tokens ≤ length from.host.tokens + 1
+  pub few : length s.tokens + 2 ≤ tick_weight one token.1 + length from.host.tokens
   pub weight : 2 + tokens_weight (token_nodes s.tokens) ≤ tick_weight one token.1 + tokens_weight (token_nodes from.host.tokens)
 
 tick_on : (from : ParserState) (one : Ticked) (o : Option ℕ) → token_of one from.host.tokens ≡ o → After (TickRead from one) (ticked_by one o from.host)
@@ -317,7 +328,7 @@ tick_on from one None e = record {
     };
   };
   ticked = λ N all own. nodes_more from.host.tokens one N all own;
-  few = omega (arith, length-append from.host.tokens (one ∷ []));
+  few = omega (arith, length-append from.host.tokens (one ∷ []), node_weighs (ticked_node one));
   weight = omega (arith, weight_more from.host.tokens one);
 }
 

@@ -29,7 +29,7 @@ use Rattle.control_flow.specs.declared.sense.Sense.TheVariants as sense
 use Rattle.control_flow.specs.Nest.{nest_ended, is_inside_do, open_of}
 use Rattle.control_flow.specs.Sense.{opening_word, ending_word}
 use Rattle.control_flow.specs.Ticks.{ticked_in, token_nodes, tokens_weight, tick_weight}
-use Rattle.control_flow.specs.ParseResult.{ParserState, ParseResult, ◌>>=◌, weighed_as, unfit}
+use Rattle.control_flow.specs.ParseResult.{ParserState, ParseResult, ◌>>=◌, weighed_as, forbidden, unfit}
 use Rattle.control_flow.specs.ReadTokens.{base_at, ReadToken, read_token_of, token_at, Named, spelled_of, spelled_at, first_byte, quotation_at}
 use Rattle.control_flow.specs.Brackets.{bracket_at}
 use Rattle.control_flow.specs.Items.{One, Many, Body, Cases, opened_at}
@@ -225,19 +225,14 @@ ticked_read from named (Ok one) s i =
     (λ N b.
     let k = s.passed.keeps.knows N b.knows in
     let same : ticks named.at ≡ ticks from = ap (λ (tokens : List Ticked). tokens_weight (token_nodes tokens)) (s.passed.keeps.ticked N b.knows) in
-    let paid : 2 ≤ tick_weight one token.1 = tick_paid one token.1 in
     record {
       read = and_from _ _ (lt-ltb token.0 65536 (omega (arith, h.number, k.few, k.light, most_small named.at.host.space.data_start k.sound.start))) refl;
       others = k.others;
       ticked = h.ticked N k.ticked (i N b.knows);
       sound = h.sound k.sound;
-      few = omega (arith, h.few, k.few, paid);
+      few = omega (arith, h.few, k.few);
       cost = omega (arith, h.weight, same);
     }))
-  where
-    tick_paid : (one : Ticked) (first : Bool) → 2 ≤ tick_weight one first
-    tick_paid one true = omega arith
-    tick_paid one false = omega arith
 
 tick_item_read : (from : ParserState) → Good (ItemRead from) (tick_at from)
 tick_item_read from = good_then (SpelledRead from) (ItemRead from) (spelled_at from) _ (spelled_read from)
@@ -504,13 +499,17 @@ module _ (keep : HostWordsKeep) (go : ParserState → ParseResult Many) (n : ℕ
   leave_on from true e = alone_read 5 Leave from refl refl e (λ N b. refl)
   leave_on from false e = tt
 
+  recurse_on : (from : ParserState) (does : Bool) → Good (ItemRead from) (elim does [ true ↦ forbidden from | false ↦ alone (entry_of word.Recurse).weight (Call from.definitions) from ])
+  recurse_on from true = tt
+  recurse_on from false = alone_read 1 (Call from.definitions) from refl refl refl (λ N b. and_from _ _ (lt-ltb from.definitions N b.own) refl)
+
   item_read : (m : ℕ) (from : ParserState) (s : Sense) → ((N : ℕ) → Bounded N from → IsSense N s) → length from.rest < n → length from.rest < m → Good (ItemRead from) (item_at go m from s)
   item_read m from (sense.Number x) q h i = alone_read 2 (Literal x) from refl refl refl (λ N b. and_from _ _ (lt-ltb x 65536 (q N b)) refl)
   item_read m from (sense.Plain w) q h i = alone_read (entry_of w).weight (Plain w) from refl refl refl (λ N b. and_from _ _ (q N b) refl)
   item_read m from (sense.Calls d) q h i = alone_read 1 (Call d) from refl refl refl (λ N b. and_from _ _ (lt-ltb d N (q N b)) refl)
   item_read m from (sense.Inherits d a) q h i =
       alone_read 2 (Child d a) from refl refl refl (λ N b. and_from _ _ (and_from _ _ (lt-ltb d N (q N b).0) (lt-ltb a 32768 (q N b).1)) refl)
-  item_read m from sense.Recurses q h i = alone_read 1 (Call from.definitions) from refl refl refl (λ N b. and_from _ _ (lt-ltb from.definitions N b.own) refl)
+  item_read m from sense.Recurses q h i = recurse_on from from.does
   item_read m from (sense.Opens o) q h i =
       good_then (λ x. Moves (entry_of (opening_word o)).weight from x × (x.nest ≡ open_of o ∷ from.nest)) (ItemRead from) (opened_at o from) _ (opens o from) (λ at v. structure_read m o from at v.0 v.1 h i)
   item_read m from (sense.Ends e) q h i = tt

@@ -8,7 +8,7 @@ use Rattle.control_flow.specs.declared.refusal.SourceError.TheVariants as error
 use Rattle.control_flow.specs.declared.nest.Ending.{Ending}
 use Rattle.control_flow.specs.declared.sense.Sense.{Sense}
 use Rattle.control_flow.specs.declared.sense.Sense.TheVariants.{Ends, Brackets}
-use Rattle.control_flow.specs.ParseResult.{ParserState, ParseResult, Fine, Refused, NotBuilt, Endless, ◌>>=◌}
+use Rattle.control_flow.specs.ParseResult.{ParserState, ParseResult, Fine, Refused, Endless, ◌>>=◌}
 use Rattle.control_flow.specs.ReadTokens.{ReadToken, token_at}
 use Rattle.control_flow.specs.Brackets.{bracket_at}
 use Rattle.control_flow.specs.Items.{Many, ended_at, item_at, then_items, items_by, items_at}
@@ -17,12 +17,10 @@ use Rattle.control_flow.specs.Answers.{FailsAs}
 -- what is refused stays refused
 pub fails_then : {A B : Type 0} (e : SourceError) (o : ParseResult A) (f : A → ParseResult B) → FailsAs e o → FailsAs e (o >>= f)
 fails_then error.OutOfMemory o f h = tt
-fails_then error.NotYet o f h = ap (λ o. o >>= f) h
 fails_then (error.Refused r) o f h = ap (λ o. o >>= f) h
 
 pub fails_as : {A : Type 0} (e : SourceError) (o p : ParseResult A) → p ≡ o → FailsAs e o → FailsAs e p
 fails_as error.OutOfMemory o p is h = tt
-fails_as error.NotYet o p is h = is ∙ h
 fails_as (error.Refused r) o p is h = is ∙ h
 
 -- with the items that are done in front
@@ -65,7 +63,6 @@ pub record Stands (whole : ParseResult Many) (done : List Item) (at : ParserStat
 behind_none : (o : ParseResult Many) → behind [] o ≡ o
 behind_none (Fine many) = refl
 behind_none (Refused k c) = refl
-behind_none NotBuilt = refl
 behind_none Endless = refl
 
 pub started : (done : List Item) → done ≡ [] → (n : ℕ) (at : ParserState) (s : Sense) → length at.rest < n → Reaches (items_by (items_at n) n at s) done at s
@@ -138,7 +135,6 @@ module _ (whole : ParseResult Many) (done : List Item) (at : ParserState) (s : S
         pushed : (o : ParseResult Many) → behind done (o >>= λ many. Fine (record many { nodes = Then (node_of i) many.nodes })) ≡ behind (done ++ i ∷ []) o
         pushed (Fine many) = ap (λ nodes. Fine (record many { nodes = nodes })) (joined_more done i many.nodes)
         pushed (Refused k c) = refl
-        pushed NotBuilt = refl
         pushed Endless = refl
 
 pub longer : {A : Type 0} (old new : List A) (i : A) → new ≡ old ++ i ∷ [] → length new ≡ length old + 1

@@ -14,26 +14,23 @@ use Rattle.control_flow.specs.declared.nest.Ending.TheVariants as ending
 use Rattle.control_flow.specs.declared.nest.Step.TheVariants.{Gone, Becomes}
 use Rattle.control_flow.specs.Nest.{with_open, open_of, step_of, stepped, nest_ended, is_do, is_inside_do}
 use Rattle.control_flow.specs.Sense.{opening_word, ending_word}
-use Rattle.control_flow.specs.ParseResult.{ParserState, ParseResult, Fine, Refused, NotBuilt, Endless, ◌>>=◌, most_weight, weighed_as, weighed}
+use Rattle.control_flow.specs.ParseResult.{ParserState, ParseResult, Fine, Refused, Endless, ◌>>=◌, most_weight, weighed_as, weighed}
 use Rattle.control_flow.specs.Items.{nested, opened_at, ended_at}
 
 -- the fuel is not spent, and a value is such
 abbrev pub Good : {A : Type 0} → (A → Type 0) → ParseResult A → Type 0
 Good P (Fine x) = P x
 Good P (Refused k c) = Unit {0}
-Good P NotBuilt = Unit {0}
 Good P Endless = ⊥
 
 pub good_then : {A B : Type 0} (P : A → Type 0) (Q : B → Type 0) (o : ParseResult A) (f : A → ParseResult B) → Good P o → ((x : A) → P x → Good Q (f x)) → Good Q (o >>= f)
 good_then P Q (Fine x) f p h = h x p
 good_then P Q (Refused k c) f p h = tt
-good_then P Q NotBuilt f p h = tt
 good_then P Q Endless f p h = absurd p
 
 pub good_weaker : {A : Type 0} (P Q : A → Type 0) → ((x : A) → P x → Q x) → (o : ParseResult A) → Good P o → Good Q o
 good_weaker P Q h (Fine x) p = h x p
 good_weaker P Q h (Refused k c) p = tt
-good_weaker P Q h NotBuilt p = tt
 good_weaker P Q h Endless p = absurd p
 
 pub good_is : {A : Type 0} (P : A → Type 0) (o : ParseResult A) (x : A) → o ≡ Fine x → Good P o → P x

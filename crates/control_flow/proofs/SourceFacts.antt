@@ -1,172 +1,163 @@
--- What holds of a source so far, and of the program of a text.
-use Rattle.std.proofs.Common.{◌≡◌, ℕ, zero, suc, ◌+◌, ◌-◌, ◌<◌, ◌≤◌, nat_lt, Bool, true, false, ◌&&◌, List, [], ◌∷◌, ◌++◌, length, Option, Some, None, refl, sym, ap, ◌∙◌, subst, arith, length-append, ltb-true}
-use Rattle.std.specs.Prelude.{codes}
+-- What holds of a source so far, and of a definition more.
+use Rattle.std.proofs.Common.{◌≡◌, ℕ, zero, suc, ◌+◌, ◌-◌, ◌<◌, ◌≤◌, nat_lt, Bool, true, false, List, [], ◌∷◌, ◌++◌, length, Option, Some, None, refl, sym, ap, ◌∙◌, subst, arith, length-append, ltb-true}
+use Rattle.std.specs.Prelude.{slice_get}
 use Rattle.std.specs.List.{list_all}
-use Rattle.std.proofs.lemmas.Bool.{and_from, and_parts, lt-ltb}
-use Rattle.console_ports.specs.DataSpace.{IsDataStart}
-use Rattle.word_table.specs.declared.word.Word.{Word}
-use Rattle.word_table.specs.declared.word.Word.TheVariants.{ToR, RFrom, RFetch, Index, OuterIndex, Unloop}
 use Rattle.word_table.specs.Names.{word_named}
-use Rattle.forth_program.specs.Tree.{Node, Nodes, Arms, Literal, Plain, Call, Child, If, Until, While, Again, Do, QDo, Case, Empty, Then, NoArm, Arm}
-use Rattle.forth_program.specs.Form.{IsProgram, everywhere, inside, in_arms, has_id_below, calls_go_back, may_stand, may_be_token, leaves_fit}
-use Rattle.forth_program.specs.Program.{SourceProgram}
+use Rattle.forth_program.specs.Tree.{Nodes}
+use Rattle.forth_program.specs.Form.{everywhere, has_id_below, calls_go_back, leaves_fit}
 use Rattle.forth_program.specs.Weight.{weight as weight_of, bodies_weight}
-use Rattle.forth_program.specs.SourceTokens.{tokens_of, all_tokens}
-use Rattle.forth_reader.specs.Reading.{Reading, NoMore, Reads, Refuses, next_from}
-use Rattle.dictionary_core.specs.Pairs.{pair, newest_value}
-use Rattle.host_state.specs.declared.entry.Entry.{Entry}
+use Rattle.forth_program.specs.SourceTokens.{all_tokens}
+use Rattle.dictionary_core.specs.Pairs.{pair}
 use Rattle.host_state.specs.declared.entry.Known.{Known}
 use Rattle.host_state.specs.declared.entry.Known.TheVariants as known
 use Rattle.host_state.specs.declared.entry.Ticked.{Ticked}
-use Rattle.host_state.specs.Kept.{HostWordsKeep, ImagesFit, SpacesBegin}
+use Rattle.host_state.specs.declared.word.HostItem.{HostItem}
+use Rattle.host_state.specs.Kept.{HostWordsKeep}
 use Rattle.control_flow.specs.declared.refusal.SourceCause.TheVariants as cause
+use Rattle.control_flow.specs.declared.before.Before.{Before}
+use Rattle.control_flow.specs.declared.before.Before.TheVariants as before
 use Rattle.control_flow.specs.declared.nest.Ending.{Ending}
 use Rattle.control_flow.specs.declared.nest.Ending.TheVariants as ending
 use Rattle.control_flow.specs.Nest.{is_inside_do}
 use Rattle.control_flow.specs.Sense.{is_create}
 use Rattle.control_flow.specs.Ticks.{token_nodes, tokens_weight}
-use Rattle.control_flow.specs.ParseResult.{ParserState, ParseResult, Fine, Refused, NotBuilt, Endless, ◌>>=◌, Each}
+use Rattle.control_flow.specs.ParseResult.{ParserState, Fine, Refused, ◌>>=◌}
 use Rattle.control_flow.specs.ReadTokens.{ReadToken, token_at, Named, spelled_at}
-use Rattle.control_flow.specs.Items.{items_by, items_at}
-use Rattle.control_flow.specs.SourceText.{Source, OutsideToken, is_reserved_name, is_colon_name, name_at, defined_by, definition_at, outside_of}
-use Rattle.control_flow.specs.SourceText.{outside_at, program_with, known_definition, main_of, program_of_source, source_by, source_at, source_start, program_of_text}
-use Rattle.control_flow.specs.SourceLaw.{is_plain, is_read, is_read_token, IsSource, EachIsJudged, EachProgramIsSource}
-use Rattle.control_flow.proofs.Readings.{Passes, next_passes}
-use Rattle.control_flow.proofs.Senses.{IsKnown, newest_below, below_more}
-use Rattle.control_flow.proofs.Moves.{Good, good_then, good_is, outermost}
-use Rattle.control_flow.proofs.HostFacts.{ticks, most_small, Knows, Bounded, knows_wider, Passed}
-use Rattle.control_flow.proofs.ItemFacts.{passed_on, SpelledRead, spelled_read, ItemsRead, TokenRead, token_read, items_from_read}
-
--- ---- a wider test
-
-module _ (P Q : Node → Bool) (wider : (x : Node) → P x ≡ true → Q x ≡ true) where
-  mutual
-    pub everywhere_wider : (nodes : Nodes) → everywhere P nodes ≡ true → everywhere Q nodes ≡ true
-    everywhere_wider Empty h = refl
-    everywhere_wider (Then node rest) h =
-        let front = and_parts (P node && inside P node) (everywhere P rest) h in
-        let own = and_parts (P node) (inside P node) front.0 in
-        and_from _ _ (and_from _ _ (wider node own.0) (inside_wider node own.1)) (everywhere_wider rest front.1)
-
-    inside_wider : (node : Node) → inside P node ≡ true → inside Q node ≡ true
-    inside_wider (If first second) h =
-        let both = and_parts (everywhere P first) (everywhere P second) h in
-        and_from _ _ (everywhere_wider first both.0) (everywhere_wider second both.1)
-    inside_wider (Until body) h = everywhere_wider body h
-    inside_wider (While first second) h =
-        let both = and_parts (everywhere P first) (everywhere P second) h in
-        and_from _ _ (everywhere_wider first both.0) (everywhere_wider second both.1)
-    inside_wider (Again body) h = everywhere_wider body h
-    inside_wider (Do body plus) h = everywhere_wider body h
-    inside_wider (QDo body plus) h = everywhere_wider body h
-    inside_wider (Case arms rest) h =
-        let both = and_parts (in_arms P arms) (everywhere P rest) h in
-        and_from _ _ (arms_wider arms both.0) (everywhere_wider rest both.1)
-    inside_wider node h = refl
-
-    arms_wider : (arms : Arms) → in_arms P arms ≡ true → in_arms Q arms ≡ true
-    arms_wider NoArm h = refl
-    arms_wider (Arm tests body others) h =
-        let parts = and_parts (everywhere P tests && everywhere P body) (in_arms P others) h in
-        let both = and_parts (everywhere P tests) (everywhere P body) parts.0 in
-        and_from _ _ (and_from _ _ (everywhere_wider tests both.0) (everywhere_wider body both.1)) (arms_wider others parts.1)
-
-  pub all_wider : (bodies : List Nodes) → list_all (everywhere P) bodies ≡ true → list_all (everywhere Q) bodies ≡ true
-  all_wider [] h = refl
-  all_wider (body ∷ bodies) h =
-      let both = and_parts (everywhere P body) (list_all (everywhere P) bodies) h in
-      and_from _ _ (everywhere_wider body both.0) (all_wider bodies both.1)
-
-read_wider : (N M : ℕ) → N ≤ M → (node : Node) → is_read N node ≡ true → is_read M node ≡ true
-read_wider N M h (Call definition) e = lt-ltb definition M (omega (arith, ltb-true definition N e))
-read_wider N M h (Literal value) e = e
-read_wider N M h (Plain word) e = e
-read_wider N M h (Child definition address) e =
-    let both = and_parts (nat_lt definition N) (nat_lt address 0x8000) e in
-    and_from _ _ (lt-ltb definition M (omega (arith, ltb-true definition N both.0))) both.1
-read_wider N M h node e = e
-
-read_id : (N : ℕ) (node : Node) → is_read N node ≡ true → has_id_below N node ≡ true
-read_id N (Call definition) e = e
-read_id N (Child definition address) e = (and_parts (nat_lt definition N) (nat_lt address 0x8000) e).0
-read_id N node e = refl
-
-plain_stands : (word : Word) → is_plain word ≡ true → may_stand (Plain word) ≡ true
-plain_stands ToR e = refl
-plain_stands RFrom e = refl
-plain_stands RFetch e = refl
-plain_stands Index e = refl
-plain_stands OuterIndex e = refl
-plain_stands Unloop e = refl
-plain_stands word e = e
-
-read_stands : (N : ℕ) (node : Node) → is_read N node ≡ true → may_stand node ≡ true
-read_stands N (Plain word) e = plain_stands word e
-read_stands N node e = refl
-
-all_more : (P : Nodes → Bool) (bodies : List Nodes) (body : Nodes) → list_all P bodies ≡ true → P body ≡ true → list_all P (bodies ++ body ∷ []) ≡ true
-all_more P [] body h k = and_from _ _ k refl
-all_more P (b ∷ bs) body h k =
-    let both = and_parts (P b) (list_all P bs) h in
-    and_from _ _ both.0 (all_more P bs body both.1 k)
-
--- the calls of a definition more, at the end, are at most its number
-back_more : (bodies : List Nodes) (body : Nodes) (definition : ℕ) → calls_go_back definition bodies ≡ true → everywhere (has_id_below (suc (definition + length bodies))) body ≡ true → calls_go_back definition (bodies ++ body ∷ []) ≡ true
-back_more [] body definition h k =
-    let own : suc (definition + 0) ≡ suc definition = omega arith in
-    and_from _ _ (subst (λ n. everywhere (has_id_below n) body ≡ true) own k) refl
-back_more (b ∷ bs) body definition h k =
-    let both = and_parts (everywhere (has_id_below (suc definition)) b) (calls_go_back (suc definition) bs) h in
-    let own : suc (definition + suc (length bs)) ≡ suc (suc definition + length bs) = omega arith in
-    and_from _ _ both.0 (back_more bs body (suc definition) both.1 (subst (λ n. everywhere (has_id_below n) body ≡ true) own k))
-
-weights_more : (bodies : List Nodes) (body : Nodes) → bodies_weight (bodies ++ body ∷ []) ≡ bodies_weight bodies + (weight_of body + 1)
-weights_more [] body = omega arith
-weights_more (b ∷ bs) body = omega (arith, weights_more bs body)
-
-tokens_more : (bodies : List Nodes) (body : Nodes) → all_tokens (bodies ++ body ∷ []) ≡ all_tokens bodies + (tokens_of body + 3)
-tokens_more [] body = omega arith
-tokens_more (b ∷ bs) body = omega (arith, tokens_more bs body)
-
--- ---- tokens
-
-token_id : (N : ℕ) (node : Node) → is_read_token N node ≡ true → has_id_below N node ≡ true
-token_id N (Call definition) e = e
-token_id N (Child definition address) e = (and_parts (nat_lt definition N) (nat_lt address 0x8000) e).0
-token_id N node e = refl
-
-token_stands : (N : ℕ) (node : Node) → is_read_token N node ≡ true → may_be_token node ≡ true
-token_stands N (Plain word) e = e
-token_stands N node e = refl
-
-each_wider : (P Q : Node → Bool) → ((node : Node) → P node ≡ true → Q node ≡ true) → (nodes : List Node) → list_all P nodes ≡ true → list_all Q nodes ≡ true
-each_wider P Q wider [] h = refl
-each_wider P Q wider (node ∷ nodes) h =
-    let both = and_parts (P node) (list_all P nodes) h in
-    and_from _ _ (wider node both.0) (each_wider P Q wider nodes both.1)
-
-as_many : (tokens : List Ticked) → length (token_nodes tokens) ≡ length tokens
-as_many [] = refl
-as_many (t ∷ ts) = omega (arith, as_many ts)
+use Rattle.control_flow.specs.Items.{Many, items_by, items_at}
+use Rattle.control_flow.specs.HostParts.{DefiningWord, HostPart, host_part_at}
+use Rattle.control_flow.specs.OutsideWords.{is_reserved_name, name_at, with_name}
+use Rattle.control_flow.specs.SourceText.{Source, with_body, ended_by, with_defining, part_by, defining_at, definition_at}
+use Rattle.control_flow.specs.SourceLaw.{is_read}
+use Rattle.control_flow.proofs.Senses.{IsKnown, below_more}
+use Rattle.control_flow.proofs.Moves.{Good, good_then, good_weaker, good_is, weighs, outermost}
+use Rattle.control_flow.proofs.HostFacts.{ticks, Knows, Bounded, knows_wider, Goes, Keeps, Passed}
+use Rattle.control_flow.proofs.HostPartFacts.{passed_then, PartRead, host_part_read, goes_does, keeps_does}
+use Rattle.control_flow.proofs.ItemFacts.{SpelledRead, spelled_read, ItemsRead, TokenRead, token_read, items_read, items_from_read}
+use Rattle.control_flow.proofs.BodyFacts.{everywhere_wider, all_wider, read_wider, read_id, all_more, back_more, weights_more, tokens_more}
 
 -- ---- a source so far
 
-pub record SourceRead (source : Source) : Type 0 where
+-- the parts of defining words are definitions
+abbrev pub PartBelow : ℕ → Option ℕ → Type 0
+PartBelow N (Some part) = part < N
+PartBelow N None = Unit {0}
+
+abbrev pub PartsBelow : ℕ → List DefiningWord → Type 0
+PartsBelow N [] = Unit {0}
+PartsBelow N (word ∷ words) = PartBelow N word.part × PartsBelow N words
+
+part_wider : (N M : ℕ) → N ≤ M → (part : Option ℕ) → PartBelow N part → PartBelow M part
+part_wider N M h (Some part) k = omega (arith, h, k)
+part_wider N M h None k = tt
+
+parts_wider : (N M : ℕ) → N ≤ M → (words : List DefiningWord) → PartsBelow N words → PartsBelow M words
+parts_wider N M h [] k = tt
+parts_wider N M h (word ∷ words) k = (part_wider N M h word.part k.0, parts_wider N M h words k.1)
+
+parts_more : (N : ℕ) (words : List DefiningWord) (word : DefiningWord) → PartsBelow N words → PartBelow N word.part → PartsBelow N (words ++ word ∷ [])
+parts_more N [] word h k = (k, tt)
+parts_more N (w ∷ ws) word h k = (h.0, parts_more N ws word h.1 k)
+
+pub part_found : (N : ℕ) (words : List DefiningWord) (number : ℕ) (word : DefiningWord) → PartsBelow N words → slice_get words number ≡ Some word → PartBelow N word.part
+part_found N [] number word h e = absurd cc
+part_found N (w ∷ ws) zero word h e =
+    let is : w ≡ word = cc in
+    subst (λ (w : DefiningWord). PartBelow N w.part) is h.0
+part_found N (w ∷ ws) (suc number) word h e = part_found N ws number word h.1 e
+
+-- nothing weighs where CODE-CELLS may still come
+abbrev pub IsEarly : Before → ℕ → Type 0
+IsEarly before.Nothing weight = weight ≡ 0
+IsEarly before.Number weight = weight ≡ 0
+IsEarly before.More weight = Unit {0}
+
+early_as : (b : Before) (w v : ℕ) → v ≡ w → IsEarly b w → IsEarly b v
+early_as before.Nothing w v e h = e ∙ h
+early_as before.Number w v e h = e ∙ h
+early_as before.More w v e h = tt
+
+-- what holds of a source, where so many names are still due to be found
+pub record SourceRead (due : ℕ) (source : Source) : Type 0 where
   pub counted : source.at.definitions ≡ length source.bodies
   pub names : length source.names ≡ length source.bodies
-  pub entries : length source.at.entries ≡ length source.bodies
-  pub few : length source.bodies ≤ 512
+  pub held : length source.bodies ≤ length source.at.entries + due
+  pub few : length source.at.entries + due ≤ 512
   pub knows : Knows (length source.bodies) source.at
+  pub defining : PartsBelow (length source.bodies) source.defining
   pub nest : source.at.nest ≡ []
   pub items : list_all (everywhere (is_read (length source.bodies))) source.bodies ≡ true
   pub back : calls_go_back 0 source.bodies ≡ true
   pub leaves : list_all (leaves_fit false) source.bodies ≡ true
   pub weight : bodies_weight source.bodies + ticks source.at ≤ source.at.weight
+  pub early : IsEarly source.before source.at.weight
   pub tokens : all_tokens source.bodies ≤ source.at.count
 
-record NamedRead (from : ParserState) (named : Named) : Type 0 where
-  passed : Passed from named.at
-  room : length named.at.entries < 512
+-- the same source, where it is read on at another place
+abbrev pub placed : Source → ParserState → Source
+placed source at = record source { at = at }
+
+pub same_ticks : (from at : ParserState) → at.host.tokens ≡ from.host.tokens → ticks at ≡ ticks from
+same_ticks from at e = ap (λ (tokens : List Ticked). tokens_weight (token_nodes tokens)) e
+
+pub passes_on : (due : ℕ) (source : Source) (at : ParserState) → SourceRead due source → Goes source.at at → Keeps source.at at → SourceRead due (placed source at)
+passes_on due source at so_far g k = record {
+  counted = g.definitions ∙ so_far.counted;
+  names = so_far.names;
+  held = omega (arith, ap length g.entries, so_far.held);
+  few = omega (arith, ap length g.entries, so_far.few);
+  knows = k.knows (length source.bodies) so_far.knows;
+  defining = so_far.defining;
+  nest = g.nest ∙ so_far.nest;
+  items = so_far.items;
+  back = so_far.back;
+  leaves = so_far.leaves;
+  weight = omega (arith, so_far.weight, g.weight, same_ticks source.at at (k.ticked (length source.bodies) so_far.knows));
+  early = early_as source.before source.at.weight at.weight g.weight so_far.early;
+  tokens = omega (arith, so_far.tokens, g.count);
+}
+
+-- the name of the definition that was read is due
+one_due : (source : Source) → length source.at.entries < 512 → SourceRead 0 source → SourceRead 1 source
+one_due source room s = record {
+  counted = s.counted;
+  names = s.names;
+  held = omega (arith, s.held);
+  few = omega (arith, room);
+  knows = s.knows;
+  defining = s.defining;
+  nest = s.nest;
+  items = s.items;
+  back = s.back;
+  leaves = s.leaves;
+  weight = s.weight;
+  early = s.early;
+  tokens = s.tokens;
+}
+
+-- a name is found from here on
+name_more : (source : Source) (name : List ℕ) (k : Known) → SourceRead 1 source → IsKnown (length source.bodies) k → SourceRead 0 (record source { at = with_name name k source.at; before = before.More })
+name_more source name k s i =
+    let p = pair name (record { number = length source.at.entries; known = k }) in
+    let more : length (source.at.entries ++ p ∷ []) ≡ length source.at.entries + 1 = length-append source.at.entries (p ∷ []) in
+    record {
+      counted = s.counted;
+      names = s.names;
+      held = omega (arith, more, s.held);
+      few = omega (arith, more, s.few);
+      knows = record { others = below_more (length source.bodies) source.at.entries p s.knows.others i; ticked = s.knows.ticked; sound = s.knows.sound; few = s.knows.few; light = s.knows.light };
+      defining = s.defining;
+      nest = s.nest;
+      items = s.items;
+      back = s.back;
+      leaves = s.leaves;
+      weight = s.weight;
+      early = tt;
+      tokens = s.tokens;
+    }
+
+pub record NamedRead (from : ParserState) (named : Named) : Type 0 where
+  pub passed : Passed from named.at
+  pub room : length named.at.entries < 512
 
 name_on : (reserved fits : Bool) (from : ParserState) (named : Named) → nat_lt (length named.at.entries) 512 ≡ fits → Passed from named.at →
     Good (NamedRead from) (elim reserved [ true ↦ Refused named.at.count cause.NeedsName | false ↦ elim fits [ true ↦ Fine named | false ↦ Refused named.at.count cause.TooManyWords ] ])
@@ -174,203 +165,150 @@ name_on true fits from named e p = tt
 name_on false true from named e p = record { passed = p; room = ltb-true (length named.at.entries) 512 e }
 name_on false false from named e p = tt
 
-named_read : (from : ParserState) → Good (NamedRead from) (name_at from)
+pub named_read : (from : ParserState) → Good (NamedRead from) (name_at from)
 named_read from =
     good_then (SpelledRead from) (NamedRead from) (spelled_at from) _ (spelled_read from)
     (λ named s. name_on (is_reserved_name (word_named named.name)) (nat_lt (length named.at.entries) 512) from named refl s.passed)
 
-same_ticks : (from mid at : ParserState) → mid.host.tokens ≡ from.host.tokens → at.host.tokens ≡ mid.host.tokens → ticks at ≡ ticks from
-same_ticks from mid at e f = ap (λ (tokens : List Ticked). tokens_weight (token_nodes tokens)) (f ∙ e)
+-- host parts and bodies are read where as many definitions and names are known
+pub part_keeps : HostWordsKeep → (at : ParserState) (part : HostPart) → ((n : ℕ) → length at.rest < n → host_part_at n at ≡ Fine part) → (part.at.definitions ≡ at.definitions) × (length part.at.entries ≡ length at.entries)
+part_keeps keep at part read =
+    let n = suc (length at.rest) in
+    let p = good_is (PartRead at) (host_part_at n at) part (read n (omega arith)) (host_part_read keep n at (omega arith)) in
+    (p.goes.definitions, ap length p.goes.entries)
 
-module _ (keep : HostWordsKeep) (source : Source) (so_far : SourceRead source) (at : ParserState) (p : Passed source.at at) where
-  abbrev DefinitionRead : Source → Type 0
-  DefinitionRead next = SourceRead next × (length next.at.rest < length at.rest)
+pub body_keeps : HostWordsKeep → (at : ParserState) (many : Many) → ((n : ℕ) → length at.rest < n → items_at n at ≡ Fine many) → (many.at.definitions ≡ at.definitions) × (length many.at.entries ≡ length at.entries)
+body_keeps keep at many read =
+    let n = suc (length at.rest) in
+    let r = good_is (ItemsRead at) (items_at n at) many (read n (omega arith)) (items_read keep n at (omega arith)) in
+    (r.definitions, ap length r.entries)
 
-  module _ (named : Named) (q : NamedRead at named) where
-    -- what is known behind the name, where more definitions may be known
-    known_there : (N : ℕ) → length source.bodies < N → Bounded N named.at
-    known_there N h = record {
-      own = omega (arith, q.passed.goes.definitions, p.goes.definitions, so_far.counted, h);
-      knows = q.passed.keeps.knows N (p.keeps.knows N (knows_wider (length source.bodies) N source.at (omega (arith, h)) so_far.knows));
-    }
+-- ---- a body more
 
-    defined_on : (nodes : Nodes) (e : Ending) (end : ParserState) → ItemsRead named.at (record { nodes = nodes; ending = e; at = end }) → Good DefinitionRead (defined_by source named.name nodes end e)
-    defined_on nodes ending.Semicolon end r =
-        let d : end.definitions ≡ source.at.definitions = r.definitions ∙ q.passed.goes.definitions ∙ p.goes.definitions in
-        let es : end.entries ≡ source.at.entries = r.entries ∙ q.passed.goes.entries ∙ p.goes.entries in
-        let more : length (source.bodies ++ nodes ∷ []) ≡ length source.bodies + 1 = length-append source.bodies (nodes ∷ []) in
-        let empty : named.at.nest ≡ [] = q.passed.goes.nest ∙ p.goes.nest ∙ so_far.nest in
-        let room : length source.bodies < 512 = omega (arith, q.room, ap length (q.passed.goes.entries ∙ p.goes.entries), so_far.entries) in
-        let N : ℕ = length (source.bodies ++ nodes ∷ []) in
-        let x = r.items N (known_there N (omega (arith, more))) in
-        let w : named.at.weight + weight_of nodes + 1 + ticks end ≤ end.weight + ticks named.at = x.weight in
-        let before : ticks named.at ≡ ticks source.at =
-        same_ticks source.at at named.at (p.keeps.ticked (length source.bodies) so_far.knows) (q.passed.keeps.ticked (length source.bodies) (p.keeps.knows (length source.bodies) so_far.knows)) in (
-          record {
-            counted = omega (arith, more, d, so_far.counted);
-            names = omega (arith, more, length-append source.names (named.name ∷ []), so_far.names);
-            entries = omega (arith, more, length-append end.entries (pair named.name (record { number = length end.entries; known = known.Definition end.definitions }) ∷ []), ap length es, so_far.entries);
-            few = omega (arith, more, room);
-            knows = record {
-              others =
-                  below_more N end.entries (pair named.name (record { number = length end.entries; known = known.Definition end.definitions })) x.knows.others
-                  (omega (arith, more, d, so_far.counted));
-              ticked = x.knows.ticked;
-              sound = x.knows.sound;
-              few = x.knows.few;
-              light = x.knows.light;
-            };
-            nest = outermost named.at.nest end.nest empty r.nest;
-            items = all_more (everywhere (is_read N)) source.bodies nodes
-                (all_wider (is_read (length source.bodies)) (is_read N) (read_wider (length source.bodies) N (omega (arith, more))) source.bodies so_far.items) x.read;
-            back = back_more source.bodies nodes 0 so_far.back
-                (everywhere_wider (is_read (suc (0 + length source.bodies))) (has_id_below (suc (0 + length source.bodies))) (read_id (suc (0 + length source.bodies))) nodes
-                (r.items (suc (0 + length source.bodies)) (known_there (suc (0 + length source.bodies)) (omega arith))).read);
-            leaves = all_more (leaves_fit false) source.bodies nodes so_far.leaves (ap (λ l. leaves_fit (is_inside_do l) nodes) (sym empty) ∙ r.leaves);
-            weight = omega (arith, weights_more source.bodies nodes, w, before, so_far.weight, q.passed.goes.weight, p.goes.weight);
-            tokens = omega (arith, tokens_more source.bodies nodes, r.tokens, so_far.tokens, q.passed.count, p.count);
-          },
-          omega (arith, r.left, q.passed.left),
-        )
-    defined_on nodes e end r = tt
+module _ (source : Source) (so_far : SourceRead 0 source) (room : length source.at.entries < 512) (two : all_tokens source.bodies + 2 ≤ source.at.count) (name : List ℕ) (nodes : Nodes) (end : ParserState)
+    (r : ItemsRead source.at (record { nodes = nodes; ending = ending.Semicolon; at = end })) where
+  bodies_more : length (source.bodies ++ nodes ∷ []) ≡ length source.bodies + 1
+  bodies_more = length-append source.bodies (nodes ∷ [])
 
-    definition_on : (n : ℕ) (seen : ReadToken) (create : Bool) → TokenRead named.at seen → length seen.at.rest < n →
-        Good DefinitionRead (elim create [ true ↦ NotBuilt | false ↦ items_by (items_at n) n seen.at seen.sense >>= λ many. defined_by source named.name many.nodes many.at many.ending ])
-    definition_on n seen true t h = tt
-    definition_on n seen false t h =
-        good_then (ItemsRead named.at) DefinitionRead (items_by (items_at n) n seen.at seen.sense) _ (items_from_read keep n named.at seen t h)
-        (λ many r. defined_on many.nodes many.ending many.at r)
+  known_there : (N : ℕ) → length source.bodies < N → Bounded N source.at
+  known_there N h = record { own = omega (arith, so_far.counted, h); knows = knows_wider (length source.bodies) N source.at (omega (arith, h)) so_far.knows }
 
-  definition_read : (n : ℕ) → length at.rest < n → Good DefinitionRead (definition_at n source at)
-  definition_read n h =
-      good_then (NamedRead at) DefinitionRead (name_at at) _ (named_read at)
-      (λ named q. good_then (TokenRead named.at) DefinitionRead (token_at named.at) _ (token_read named.at)
-      (λ seen t. definition_on named q n seen (is_create seen.sense) t (omega (arith, q.passed.left, t.passed.left, h))))
-
--- ---- outside definitions
-
-record OutsideRead (from : ParserState) (outside : OutsideToken) : Type 0 where
-  entries : outside.at.entries ≡ from.entries
-  host : outside.at.host ≡ from.host
-  count : from.count ≤ outside.at.count
-  passed : outside.begins ≡ true → Passed from outside.at
-
-colon_on : (t : Bool) (from at : ParserState) → at.entries ≡ from.entries → at.host ≡ from.host → Passed from at →
-    Good (OutsideRead from) (elim t [ true ↦ Fine (record { begins = true; at = at }) | false ↦ NotBuilt ])
-colon_on true from at e s p = record { entries = e; host = s; count = omega (arith, p.count); passed = λ e. p }
-colon_on false from at e s p = tt
-
-outside_read : (from : ParserState) (reading : Reading) → Passes from.count (length from.rest) reading → Good (OutsideRead from) (outside_of from reading)
-outside_read from (NoMore k) h = record { entries = refl; host = refl; count = h; passed = λ e. absurd cc }
-outside_read from (Refuses k c) h = tt
-outside_read from (Reads token k rest) h =
-    colon_on (is_colon_name (word_named token)) from (record from { rest = rest; count = k }) refl refl (passed_on from k rest h.0 h.1)
-
--- ---- the end of the text
-
-module _ (source : Source) (so_far : SourceRead source) (at : ParserState) (es : at.entries ≡ source.at.entries) (hs : at.host ≡ source.at.host) (c : source.at.count ≤ at.count) (fit : ImagesFit) where
-  is_source_of : (main : ℕ) → main < length source.bodies → IsSource (program_with source.names source.bodies main at.count source.at.host)
-  is_source_of main h =
-      let N : ℕ = length source.bodies in
-      let k = so_far.knows in
-      let image = fit source.at.host.space.data_start source.at.host.tokens source.at.host k.sound.start.is_even k.sound.start.at_most k.sound.settled in
+  body_more : SourceRead 1 (record (with_body source name nodes end) { before = before.More })
+  body_more =
+      let N : ℕ = length (source.bodies ++ nodes ∷ []) in
+      let more : N ≡ length source.bodies + 1 = bodies_more in
+      let x = r.items N (known_there N (omega (arith, more))) in
+      let w : source.at.weight + weight_of nodes + 1 + ticks end ≤ end.weight + ticks source.at = x.weight in (
       record {
-        form = record {
-          named = so_far.names;
-          few_bodies = omega (arith, so_far.few);
-          few_tokens = omega (arith, as_many source.at.host.tokens, k.few, k.light, most_small source.at.host.space.data_start k.sound.start);
-          main_in_range = h;
-          ids_in_range = all_wider (is_read N) (has_id_below N) (read_id N) source.bodies so_far.items;
-          token_ids_in_range = each_wider (is_read_token N) (has_id_below N) (token_id N) (token_nodes source.at.host.tokens) k.ticked;
-          leaves_in_loops = so_far.leaves;
-          words_allowed = all_wider (is_read N) may_stand (read_stands N) source.bodies so_far.items;
-          tokens_allowed = each_wider (is_read_token N) may_be_token (token_stands N) (token_nodes source.at.host.tokens) k.ticked;
-          data_start = k.sound.start;
-          space_fits = image.1;
-        };
-        few = so_far.few;
-        items = so_far.items;
-        token_items = k.ticked;
-        light = omega (arith, so_far.weight, k.light);
-        counted = omega (arith, so_far.tokens, c);
-        bytes = image.0;
-        calls_back = so_far.back;
+        counted = omega (arith, more, r.definitions, so_far.counted);
+        names = omega (arith, more, length-append source.names (name ∷ []), so_far.names);
+        held = omega (arith, more, ap length r.entries, so_far.held);
+        few = omega (arith, ap length r.entries, room);
+        knows = record { others = x.knows.others; ticked = x.knows.ticked; sound = x.knows.sound; few = x.knows.few; light = x.knows.light };
+        defining = parts_wider (length source.bodies) N (omega (arith, more)) source.defining so_far.defining;
+        nest = outermost source.at.nest end.nest so_far.nest r.nest;
+        items = all_more (everywhere (is_read N)) source.bodies nodes
+            (all_wider (is_read (length source.bodies)) (is_read N) (read_wider (length source.bodies) N (omega (arith, more))) source.bodies so_far.items) x.read;
+        back = back_more source.bodies nodes 0 so_far.back
+            (everywhere_wider (is_read (suc (0 + length source.bodies))) (has_id_below (suc (0 + length source.bodies))) (read_id (suc (0 + length source.bodies))) nodes
+            (r.items (suc (0 + length source.bodies)) (known_there (suc (0 + length source.bodies)) (omega arith))).read);
+        leaves = all_more (leaves_fit false) source.bodies nodes so_far.leaves (ap (λ l. leaves_fit (is_inside_do l) nodes) (sym so_far.nest) ∙ r.leaves);
+        weight = omega (arith, weights_more source.bodies nodes, w, so_far.weight);
+        early = tt;
+        tokens = omega (arith, tokens_more source.bodies nodes, r.tokens, two);
+      }
+      )
+
+-- ---- definitions
+
+-- what a definition or a word leaves behind a place
+abbrev pub Behind : ℕ → Source → Type 0
+Behind left next = SourceRead 0 next × (length next.at.rest ≤ left)
+
+module _ (keep : HostWordsKeep) (source : Source) (so_far : SourceRead 0 source) (named : Named) (q : NamedRead source.at named) (one : all_tokens source.bodies + 1 ≤ source.at.count) where
+  abbrev pub there : Source
+  there = placed source named.at
+
+  read_there : SourceRead 0 there
+  read_there = passes_on 0 source named.at so_far q.passed.goes q.passed.keeps
+
+  ended_on : (nodes : Nodes) (e : Ending) (end : ParserState) → ItemsRead named.at (record { nodes = nodes; ending = e; at = end }) → Good (Behind (length source.at.rest)) (ended_by source named.name nodes end e)
+  ended_on nodes ending.Semicolon end r =
+      let kept = record (with_body source named.name nodes end) { before = before.More } in
+      let more = body_more there read_there q.room (omega (arith, one, q.passed.count)) named.name nodes end r in (
+        name_more kept named.name (known.Definition end.definitions) more
+            (omega (arith, length-append source.bodies (nodes ∷ []), r.definitions, read_there.counted)),
+        omega (arith, r.left, q.passed.left),
+      )
+  ended_on nodes e end r = tt
+
+  -- a defining word
+  defining_more : (s : Source) (items : List HostItem) (part : Option ℕ) → SourceRead 1 s → PartBelow (length s.bodies) part → SourceRead 0 (with_defining s named.name items part)
+  defining_more s items part h k =
+      let named_too = name_more s named.name (known.Defining (length s.defining)) h tt in
+      record {
+        counted = named_too.counted;
+        names = named_too.names;
+        held = named_too.held;
+        few = named_too.few;
+        knows = record { others = named_too.knows.others; ticked = named_too.knows.ticked; sound = named_too.knows.sound; few = named_too.knows.few; light = named_too.knows.light };
+        defining = parts_more (length s.bodies) s.defining (record { items = items; part = part }) h.defining k;
+        nest = named_too.nest;
+        items = named_too.items;
+        back = named_too.back;
+        leaves = named_too.leaves;
+        weight = named_too.weight;
+        early = tt;
+        tokens = named_too.tokens;
       }
 
-  is_source : (main : ℕ) → main < length source.bodies → IsSource (program_with source.names source.bodies main at.count at.host)
-  is_source main h = subst (λ host. IsSource (program_with source.names source.bodies main at.count host)) (sym hs) (is_source_of main h)
+  module _ (part : HostPart) (p : PartRead named.at part) where
+    abbrev behind : Source
+    behind = placed source (record part.at { does = true })
 
-  known_main : (k : Known) (main : ℕ) → IsKnown (length source.bodies) k → known_definition k ≡ Some main → main < length source.bodies
-  known_main (known.Definition definition) main h e =
-      let is : definition ≡ main = cc in
-      subst (λ n. n < length source.bodies) is h
-  known_main k main h e = absurd cc
+    read_behind : SourceRead 0 behind
+    read_behind = passes_on 0 there (record part.at { does = true }) read_there (goes_does named.at part.at true p.goes) (keeps_does named.at part.at true p.keeps)
 
-  found_main : (found : Option Entry) (main : ℕ) → newest_value at.entries (codes "MAIN") ≡ found → main_of found ≡ Some main → main < length source.bodies
-  found_main (Some entry) main e f =
-      known_main entry.known main (newest_below (length source.bodies) source.at.entries (codes "MAIN") entry so_far.knows.others (ap (λ l. newest_value l (codes "MAIN")) (sym es) ∙ e)) f
-  found_main None main e f = absurd cc
+    part_on : (nodes : Nodes) (e : Ending) (end : ParserState) → ItemsRead behind.at (record { nodes = nodes; ending = e; at = end }) → Good (Behind (length source.at.rest)) (part_by source named.name part.items nodes end e)
+    part_on nodes ending.Semicolon end r =
+        let room : length part.at.entries < 512 = omega (arith, ap length p.goes.entries, q.room) in
+        let two : all_tokens source.bodies + 2 ≤ part.at.count = omega (arith, one, q.passed.count, p.goes.count) in (
+          defining_more (record (with_body source named.name nodes end) { before = before.More }) part.items (Some end.definitions) (body_more behind read_behind room two named.name nodes end r)
+              (omega (arith, length-append source.bodies (nodes ∷ []), r.definitions, read_behind.counted)),
+          omega (arith, r.left, p.goes.left, q.passed.left),
+        )
+    part_on nodes e end r = tt
 
-  main_on : (o : Option ℕ) → main_of (newest_value at.entries (codes "MAIN")) ≡ o →
-      Good IsSource (elim o [ Some main ↦ Fine (program_with source.names source.bodies main at.count at.host) | None ↦ Refused (at.count + 1) cause.NoMain ])
-  main_on (Some main) e = is_source main (found_main (newest_value at.entries (codes "MAIN")) main refl e)
-  main_on None e = tt
+    does_on : (n : ℕ) (does : Bool) → length part.at.rest < n →
+        Good (Behind (length source.at.rest)) (elim does [
+          | true ↦ items_at n (record part.at { does = true }) >>= λ many. part_by source named.name part.items many.nodes many.at many.ending
+          | false ↦ Fine (with_defining (placed source part.at) named.name part.items None)
+        ])
+    does_on n true h =
+        good_then (ItemsRead behind.at) (Behind (length source.at.rest)) (items_at n behind.at) _ (items_read keep n behind.at h)
+        (λ many r. part_on many.nodes many.ending many.at r)
+    does_on n false h = (
+      defining_more (placed source part.at) part.items None
+          (one_due (placed source part.at) (omega (arith, ap length p.goes.entries, q.room)) (passes_on 0 there part.at read_there p.goes p.keeps)) tt,
+      omega (arith, p.goes.left, q.passed.left),
+    )
 
-  program_read : Good IsSource (program_of_source source at)
-  program_read = main_on (main_of (newest_value at.entries (codes "MAIN"))) refl
+  create_on : (n : ℕ) (seen : ReadToken) (create : Bool) → TokenRead named.at seen → length named.at.rest < n →
+      Good (Behind (length source.at.rest)) (elim create [
+        | true ↦ defining_at n source named.name seen.at
+        | false ↦ items_by (items_at n) n seen.at seen.sense >>= λ many. ended_by source named.name many.nodes many.at many.ending
+      ])
+  create_on n seen true t h =
+      good_then (PartRead named.at) (Behind (length source.at.rest)) (host_part_at n seen.at) _
+      (good_weaker (PartRead seen.at) (PartRead named.at) (λ part p. passed_then named.at seen.at part.at t.passed p) (host_part_at n seen.at) (host_part_read keep n seen.at (omega (arith, t.passed.left, h))))
+      (λ part p. does_on part p n part.does (omega (arith, p.left, h)))
+  create_on n seen false t h =
+      good_then (ItemsRead named.at) (Behind (length source.at.rest)) (items_by (items_at n) n seen.at seen.sense) _ (items_from_read keep n named.at seen t (omega (arith, t.passed.left, h)))
+      (λ many r. ended_on many.nodes many.ending many.at r)
 
-module _ (keep : HostWordsKeep) (fit : ImagesFit) (n : ℕ) (source : Source) (so_far : SourceRead source) (h : length source.at.rest < suc n)
-    (goes : (next : Source) → SourceRead next → length next.at.rest < n → Good IsSource (source_at n next)) where
-  outside_on : (begins : Bool) (at : ParserState) → OutsideRead source.at (record { begins = begins; at = at }) → Good IsSource (source_by (source_at n) n source (record { begins = begins; at = at }))
-  outside_on true at o =
-      let p : Passed source.at at = o.passed refl in
-      good_then (λ next. SourceRead next × (length next.at.rest < length at.rest)) IsSource (definition_at n source at) _ (definition_read keep source so_far at p n (omega (arith, p.left)))
-      (λ next d. goes next d.0 (omega (arith, d.1, p.left)))
-  outside_on false at o = program_read source so_far at o.entries o.host o.count fit
-
-pub source_read : HostWordsKeep → ImagesFit → (n : ℕ) (source : Source) → SourceRead source → length source.at.rest < n → Good IsSource (source_at n source)
-unfolding source_at
-source_read keep fit zero source s h = absurd (omega arith)
-source_read keep fit (suc n) source s h =
-    good_then (OutsideRead source.at) IsSource (outside_at source.at) _
-    (outside_read source.at (next_from source.at.count source.at.rest) (next_passes source.at.count (length source.at.rest) source.at.count source.at.rest (omega arith) (omega arith)))
-    (λ outside o. outside_on keep fit n source s h (source_read keep fit n) outside.begins outside.at o)
-
--- what holds of host words
-pub record HostLaws : Type 0 where
-  pub keep : HostWordsKeep
-  pub fit : ImagesFit
-  pub begin : SpacesBegin
-
-first_start : IsDataStart 8192
-first_start = record { is_even = refl; at_least = omega arith; at_most = omega arith }
-
-started_read : SpacesBegin → (text : List ℕ) → SourceRead (source_start text)
-started_read begin text = record {
-  counted = refl;
-  names = refl;
-  entries = refl;
-  few = omega arith;
-  knows = record { others = tt; ticked = refl; sound = record { start = first_start; settled = begin 8192 [] [] refl (omega arith) tt }; few = omega arith; light = omega arith };
-  nest = refl;
-  items = refl;
-  back = refl;
-  leaves = refl;
-  weight = omega arith;
-  tokens = omega arith;
-}
-
-pub text_read : HostLaws → (text : List ℕ) → Good IsSource (program_of_text text)
-text_read laws text = source_read laws.keep laws.fit (suc (length text)) (source_start text) (started_read laws.begin text) (omega arith)
-
-pub judged : HostLaws → EachIsJudged
-judged laws text e = subst (Good IsSource) e (text_read laws text)
-
-pub programs_are_sources : HostLaws → EachProgramIsSource
-programs_are_sources laws text program e = good_is IsSource (program_of_text text) program e (text_read laws text)
-
-pub program_form : (o : ParseResult SourceProgram) → Good IsSource o → Each IsProgram o
-program_form (Fine program) h = h.form
-program_form (Refused k c) h = tt
-program_form NotBuilt h = tt
-program_form Endless h = tt
+pub definition_read : (keep : HostWordsKeep) (source : Source) → SourceRead 0 source → all_tokens source.bodies + 1 ≤ source.at.count → (n : ℕ) → length source.at.rest < n →
+    Good (Behind (length source.at.rest)) (definition_at n source source.at)
+definition_read keep source so_far one n h =
+    good_then (NamedRead source.at) (Behind (length source.at.rest)) (name_at source.at) _ (named_read source.at)
+    (λ named q. good_then (TokenRead named.at) (Behind (length source.at.rest)) (token_at named.at) _ (token_read named.at)
+    (λ seen t. create_on keep source so_far named q one n seen (is_create seen.sense) t (omega (arith, q.passed.left, h))))

@@ -1,9 +1,10 @@
--- One definition more of a source.
-use Rattle.std.proofs.Common.{◌≡◌, ℕ, zero, suc, ◌-◌, ◌<◌, Bool, true, false, ap, ◌∙◌, arith}
+-- One token more outside definitions.
+use Rattle.std.proofs.Common.{◌≡◌, ℕ, zero, suc, ◌-◌, ◌<◌, ◌≤◌, length, Option, Some, None, ap, ◌∙◌, arith}
 use Rattle.forth_program.specs.Program.{SourceProgram}
 use Rattle.control_flow.specs.declared.refusal.SourceError.{SourceError}
+use Rattle.control_flow.specs.declared.outside_sense.OutsideSense.{OutsideSense}
 use Rattle.control_flow.specs.ParseResult.{ParserState, ParseResult, Fine, ◌>>=◌}
-use Rattle.control_flow.specs.SourceText.{Source, outside_at, definition_at, program_of_source, source_by, source_at}
+use Rattle.control_flow.specs.SourceText.{Source, outside_at, outside_by, program_of_source, source_by, source_at}
 use Rattle.control_flow.specs.Answers.{FailsAs}
 use Rattle.control_flow.proofs.ItemLists.{fails_then, fails_as}
 
@@ -12,27 +13,38 @@ unfolding source_at
 source_step zero source h = absurd (omega arith)
 source_step (suc n) source h = ap (λ m. outside_at source.at >>= source_by (source_at m) m source) (omega arith)
 
-module _ (whole : ParseResult SourceProgram) (n : ℕ) (source : Source) (so_far : whole ≡ source_at n source) (more : 0 < n) where
-  next_outside : whole ≡ (outside_at source.at >>= source_by (source_at (n - 1)) (n - 1) source)
-  next_outside = so_far ∙ source_step n source more
+-- a source is read on, with fuel for what is left
+pub record InSource (whole : ParseResult SourceProgram) (source : Source) : Type 0 where
+  pub fuel : ℕ
+  pub enough : length source.at.rest < fuel
+  pub same : whole ≡ source_at fuel source
 
+module _ (whole : ParseResult SourceProgram) (source : Source) (here : InSource whole source) where
+  next_outside : whole ≡ (outside_at source.at >>= source_by (source_at (here.fuel - 1)) (here.fuel - 1) source)
+  next_outside = here.same ∙ source_step here.fuel source (omega (arith, here.enough))
+
+  -- the token is refused
   pub refused_outside : (e : SourceError) → FailsAs e (outside_at source.at) → FailsAs e whole
   refused_outside e f = fails_as e _ whole next_outside (fails_then e (outside_at source.at) _ f)
 
-  module _ (begins : Bool) (at : ParserState) (read : outside_at source.at ≡ Fine (record { begins = begins; at = at })) where
-    with_outside : whole ≡ source_by (source_at (n - 1)) (n - 1) source (record { begins = begins; at = at })
-    with_outside = next_outside ∙ ap (λ o. o >>= source_by (source_at (n - 1)) (n - 1) source) read
+  module _ (found : Option OutsideSense) (at : ParserState) (read : outside_at source.at ≡ Fine (record { sense = found; at = at })) where
+    with_outside : whole ≡ source_by (source_at (here.fuel - 1)) (here.fuel - 1) source (record { sense = found; at = at })
+    with_outside = next_outside ∙ ap (λ o. o >>= source_by (source_at (here.fuel - 1)) (here.fuel - 1) source) read
 
     -- the text ends
-    pub at_end : begins ≡ false → whole ≡ program_of_source source at
-    at_end e = with_outside ∙ ap (λ b. source_by (source_at (n - 1)) (n - 1) source (record { begins = b; at = at })) e
+    pub at_end : found ≡ None → whole ≡ program_of_source source at
+    at_end e = with_outside ∙ ap (λ f. source_by (source_at (here.fuel - 1)) (here.fuel - 1) source (record { sense = f; at = at })) e
 
-    module _ (e : begins ≡ true) where
-      with_colon : whole ≡ (definition_at (n - 1) source at >>= source_at (n - 1))
-      with_colon = with_outside ∙ ap (λ b. source_by (source_at (n - 1)) (n - 1) source (record { begins = b; at = at })) e
+    module _ (sense : OutsideSense) (e : found ≡ Some sense) where
+      with_word : whole ≡ (outside_by (here.fuel - 1) source at sense >>= source_at (here.fuel - 1))
+      with_word = with_outside ∙ ap (λ f. source_by (source_at (here.fuel - 1)) (here.fuel - 1) source (record { sense = f; at = at })) e
 
-      pub refused_definition : (error : SourceError) → FailsAs error (definition_at (n - 1) source at) → FailsAs error whole
-      refused_definition error f = fails_as error _ whole with_colon (fails_then error (definition_at (n - 1) source at) _ f)
+      pub refused_word : (error : SourceError) → FailsAs error (outside_by (here.fuel - 1) source at sense) → FailsAs error whole
+      refused_word error f = fails_as error _ whole with_word (fails_then error (outside_by (here.fuel - 1) source at sense) _ f)
 
-      pub next_source : (next : Source) → definition_at (n - 1) source at ≡ Fine next → whole ≡ source_at (n - 1) next
-      next_source next f = with_colon ∙ ap (λ o. o >>= source_at (n - 1)) f
+      pub behind_word : (next : Source) → outside_by (here.fuel - 1) source at sense ≡ Fine next → length next.at.rest < length source.at.rest → InSource whole next
+      behind_word next f shorter = record {
+        fuel = here.fuel - 1;
+        enough = omega (arith, here.enough, shorter);
+        same = with_word ∙ ap (λ o. o >>= source_at (here.fuel - 1)) f;
+      }

@@ -14,7 +14,7 @@ use Rattle.host_state.specs.declared.word.HostWord.{HostWord}
 use Rattle.host_state.specs.declared.word.HostWord.TheVariants as host
 use Rattle.host_state.specs.declared.word.HostItem.TheVariants as item
 use Rattle.control_flow.specs.declared.host_sense.HostSense.{HostSense}
-use Rattle.control_flow.specs.declared.host_sense.HostSense.TheVariants.{Acts, Closes, Quoted, OutOfRange, Unknown, Forbidden}
+use Rattle.control_flow.specs.declared.host_sense.HostSense.TheVariants.{Acts, Closes, Ends, Does, Quoted, OutOfRange, Unknown, Forbidden}
 
 -- the plain host words of the table
 abbrev pub host_word : Word → Option HostWord
@@ -66,6 +66,8 @@ plain_host_sense None = Forbidden
 -- the string words read their text before they are refused
 abbrev pub word_host_sense : Word → HostSense
 word_host_sense word.RightBracket = Closes
+word_host_sense word.Semicolon = Ends
+word_host_sense word.Does = Does
 word_host_sense word.SQuote = Quoted
 word_host_sense word.DotQuote = Quoted
 word_host_sense word.AbortQuote = Quoted

@@ -179,7 +179,7 @@ item_at go m at (sense.Number value) = alone 2 (Literal value) at
 item_at go m at (sense.Plain w) = alone (entry_of w).weight (Plain w) at
 item_at go m at (sense.Calls definition) = alone 1 (Call definition) at
 item_at go m at (sense.Inherits part address) = alone 2 (Child part address) at
-item_at go m at sense.Recurses = alone (entry_of word.Recurse).weight (Call at.definitions) at
+item_at go m at sense.Recurses = elim at.does [ true ↦ forbidden at | false ↦ alone (entry_of word.Recurse).weight (Call at.definitions) at ]
 item_at go m at (sense.Opens o) = opened_at o at >>= structure_at go m o
 item_at go m at (sense.Ends e) = unfit at
 item_at go m at sense.Leaves = elim (is_inside_do at.nest) [ true ↦ alone (entry_of word.Leave).weight Leave at | false ↦ unfit at ]

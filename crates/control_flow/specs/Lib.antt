@@ -6,6 +6,9 @@ pub mod Ticks
 pub mod ReadTokens
 pub mod Brackets
 pub mod Items
+pub mod HostParts
+pub mod OutsideSense
+pub mod OutsideWords
 pub mod SourceText
 pub mod Answers
 pub mod SourceLaw

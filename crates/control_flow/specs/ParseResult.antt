@@ -1,5 +1,5 @@
 -- Places of a source text, and what reading from one gives.
-use Rattle.std.specs.Prelude.{ℕ, ◌+◌, ◌-◌, ◌/◌, nat_le, true, false, List}
+use Rattle.std.specs.Prelude.{ℕ, ◌+◌, ◌-◌, ◌/◌, nat_le, Bool, true, false, List}
 use Rattle.forth_reader.specs.declared.refusal.ReadCause.{ReadCause}
 use Rattle.forth_reader.specs.declared.refusal.ReadCause.TheVariants as read
 use Rattle.dictionary_core.specs.Pairs.{Pair}
@@ -25,13 +25,14 @@ pub record ParserState : Type 0 where
   pub definitions : ℕ
   -- what host words act on
   pub host : Host
+  -- whether the part behind a DOES> is read, in which RECURSE cannot stand
+  pub does : Bool
 
--- a value; the first refused token with its cause; or a token comes first that is not built yet.
+-- a value, or the first refused token with its cause.
 -- Endless stands for a text that is left when the fuel is spent; with more fuel than bytes it never comes.
 pub data ParseResult (A : Type 0) : Type 0 where
   Fine : (value : A) → ParseResult A
   Refused : (token : ℕ) (cause : SourceCause) → ParseResult A
-  NotBuilt : ParseResult A
   Endless : ParseResult A
 
 -- goes on with the value, where there is one
@@ -39,7 +40,6 @@ infixl 10 ◌>>=◌
 abbrev pub ◌>>=◌ : {A B : Type 0} → ParseResult A → (A → ParseResult B) → ParseResult B
 (Fine x) >>= f = f x
 (Refused k c) >>= f = Refused k c
-NotBuilt >>= f = NotBuilt
 Endless >>= f = Endless
 
 abbrev pub source_cause : ReadCause → SourceCause
@@ -75,6 +75,10 @@ weighed_as number weight at = elim (nat_le (at.weight + weight) (most_weight at)
 abbrev pub weighed : ℕ → ParserState → ParseResult ParserState
 weighed weight at = weighed_as at.count weight at
 
+-- a word that can stand only in a definition
+abbrev pub only_inside : {A : Type 0} → ParserState → ParseResult A
+only_inside at = Refused at.count cause.OnlyInDefinition
+
 -- a word that cannot stand in a definition
 abbrev pub forbidden : {A : Type 0} → ParserState → ParseResult A
 forbidden at = Refused at.count cause.NotInDefinition
@@ -87,5 +91,4 @@ unfit at = Refused at.count cause.BadNest
 abbrev pub Each : {A : Type 0} → (A → Type 0) → ParseResult A → Type 0
 Each P (Fine x) = P x
 Each P (Refused k c) = Unit {0}
-Each P NotBuilt = Unit {0}
 Each P Endless = Unit {0}

@@ -13,7 +13,7 @@ use Rattle.control_flow.specs.ParseResult.{Fine, Endless}
 use Rattle.control_flow.specs.Ticks.{tokens_weight}
 use Rattle.control_flow.specs.SourceText.{program_of_text}
 
--- a text has a program, a first refusal, or a token that is not built
+-- a text has a program or a first refusal
 abbrev pub EachIsJudged : Type 0
 EachIsJudged = (text : List ℕ) → program_of_text text ≡ Endless → ⊥
 

@@ -1,79 +1,100 @@
--- The program of a source text, definition by definition.
-use Rattle.std.specs.Prelude.{ℕ, zero, suc, ◌+◌, nat_lt, List, [], ◌∷◌, ◌++◌, length, Bool, true, false, Option, Some, None, codes}
-use Rattle.word_table.specs.declared.word.Word.{Word}
-use Rattle.word_table.specs.declared.word.Word.TheVariants.{Colon, Semicolon, Paren, Backslash, DotQuote, SQuote, AbortQuote}
-use Rattle.word_table.specs.Names.{word_named}
+-- The program of a source text: definitions, and what is done outside them.
+use Rattle.std.specs.Prelude.{ℕ, zero, suc, ◌+◌, List, [], ◌∷◌, ◌++◌, length, Bool, true, false, Option, Some, None, codes, slice_get}
 use Rattle.forth_program.specs.Tree.{Nodes}
 use Rattle.forth_program.specs.Program.{SourceProgram}
 use Rattle.forth_reader.specs.Reading.{Reading, NoMore, Reads, Refuses, next_from}
-use Rattle.dictionary_core.specs.Pairs.{pair, newest_value}
+use Rattle.dictionary_core.specs.Pairs.{newest_value}
 use Rattle.host_state.specs.declared.entry.Entry.{Entry}
 use Rattle.host_state.specs.declared.entry.Known.{Known}
 use Rattle.host_state.specs.declared.entry.Known.TheVariants as known
+use Rattle.host_state.specs.declared.word.HostItem.{HostItem}
 use Rattle.host_state.specs.HostCells.{Host}
 use Rattle.host_state.specs.HostMemory.{first_space}
 use Rattle.host_state.specs.FirstImage.{image_of}
 use Rattle.control_flow.specs.declared.refusal.SourceCause.TheVariants as cause
 use Rattle.control_flow.specs.declared.nest.Ending.{Ending}
 use Rattle.control_flow.specs.declared.nest.Ending.TheVariants as ending
-use Rattle.control_flow.specs.ParseResult.{ParserState, ParseResult, Fine, Refused, NotBuilt, Endless, ◌>>=◌, source_cause, unfit}
+use Rattle.control_flow.specs.declared.before.Before.{Before}
+use Rattle.control_flow.specs.declared.before.Before.TheVariants as before
+use Rattle.control_flow.specs.declared.outside_sense.OutsideSense.{OutsideSense}
+use Rattle.control_flow.specs.declared.outside_sense.OutsideSense.TheVariants.{Begins, Acts, NamesConstant, NamesVariable, NamesAddress, NamesChild, Ticks, Spells, Splits, Quoted, OutOfRange, Unknown, Forbidden}
+use Rattle.control_flow.specs.ParseResult.{ParserState, ParseResult, Fine, Refused, Endless, ◌>>=◌, source_cause, unfit, only_inside}
 use Rattle.control_flow.specs.Sense.{is_create}
 use Rattle.control_flow.specs.Ticks.{token_nodes}
-use Rattle.control_flow.specs.ReadTokens.{ReadToken, token_at, Named, spelled_at}
+use Rattle.control_flow.specs.ReadTokens.{base_at, ReadToken, token_at, Named}
+use Rattle.control_flow.specs.Brackets.{acted_at, quoted_at}
 use Rattle.control_flow.specs.Items.{items_by, items_at}
+use Rattle.control_flow.specs.HostParts.{DefiningWord, host_part_at}
+use Rattle.control_flow.specs.OutsideSense.{is_number, outside_sense_in}
+use Rattle.control_flow.specs.OutsideWords.{name_at, with_name, constant_at, variable_at, create_at, child_at, outside_tick_at, outside_char_at, code_cells_at}
 
--- the words whose names cannot be defined
-abbrev pub is_reserved : Word → Bool
-is_reserved Colon = true
-is_reserved Semicolon = true
-is_reserved Paren = true
-is_reserved Backslash = true
-is_reserved DotQuote = true
-is_reserved SQuote = true
-is_reserved AbortQuote = true
-is_reserved word = false
+-- what stands before a token outside definitions, comments aside, by whether the last is a number
+abbrev pub before_by : Before → Bool → Before
+before_by before.Nothing true = before.Number
+before_by before.Nothing false = before.More
+before_by before.Number is_number = before.More
+before_by before.More is_number = before.More
 
-abbrev pub is_reserved_name : Option Word → Bool
-is_reserved_name (Some word) = is_reserved word
-is_reserved_name None = false
+abbrev pub before_next : Before → OutsideSense → Before
+before_next before sense = before_by before (is_number sense)
 
--- a name can be defined, and is not the 513th
-abbrev pub definable : Named → ParseResult Named
-definable named = elim (is_reserved_name (word_named named.name)) [
-  | true ↦ Refused named.at.count cause.NeedsName
-  | false ↦ elim (nat_lt (length named.at.entries) 512) [ true ↦ Fine named | false ↦ Refused named.at.count cause.TooManyWords ]
-]
+-- CODE-CELLS is due behind one number
+abbrev pub is_due : Before → Bool
+is_due before.Nothing = false
+is_due before.Number = true
+is_due before.More = false
 
--- the name of a definition, behind its `:`
-abbrev pub name_at : ParserState → ParseResult Named
-name_at at = spelled_at at >>= definable
-
--- a source so far: where it is read on, and the names and bodies of its definitions, in their order
+-- a source so far: where it is read on, the names and bodies of its definitions in their order, its defining words, and what stands before
 pub record Source : Type 0 where
   pub at : ParserState
   pub names : List (List ℕ)
   pub bodies : List Nodes
+  pub defining : List DefiningWord
+  pub before : Before
 
--- the name is found from here on
-abbrev pub with_entry : List ℕ → ParserState → ParserState
-with_entry name at = record at {
-  entries = at.entries ++ pair name (record { number = length at.entries; known = known.Definition at.definitions }) ∷ [];
-  definitions = at.definitions + 1;
+-- ---- definitions
+
+-- a body more, with its name
+abbrev pub with_body : Source → List ℕ → Nodes → ParserState → Source
+with_body source name nodes at = record source { at = record at { definitions = at.definitions + 1 }; names = source.names ++ name ∷ []; bodies = source.bodies ++ nodes ∷ [] }
+
+-- a definition, whose name is found from here on
+abbrev pub with_definition : Source → List ℕ → Nodes → ParserState → Source
+with_definition source name nodes at = record (with_body source name nodes at) {
+  at = with_name name (known.Definition at.definitions) (record at { definitions = at.definitions + 1 });
+  before = before.More;
 }
 
-abbrev pub with_definition : Source → List ℕ → Nodes → ParserState → Source
-with_definition source name nodes at = record { at = with_entry name at; names = source.names ++ name ∷ []; bodies = source.bodies ++ nodes ∷ [] }
-
 -- a definition ends with its `;`
-abbrev pub defined_by : Source → List ℕ → Nodes → ParserState → Ending → ParseResult Source
-defined_by source name nodes at ending.Semicolon = Fine (with_definition source name nodes at)
-defined_by source name nodes at e = unfit at
+abbrev pub ended_by : Source → List ℕ → Nodes → ParserState → Ending → ParseResult Source
+ended_by source name nodes at ending.Semicolon = Fine (with_definition source name nodes at)
+ended_by source name nodes at e = unfit at
 
--- a definition, by its first token: one that begins with CREATE is not built
+-- a defining word, whose name is found from here on
+abbrev pub with_defining : Source → List ℕ → List HostItem → Option ℕ → Source
+with_defining source name items part = record source {
+  at = record (with_name name (known.Defining (length source.defining)) source.at) { does = false };
+  defining = source.defining ++ record { items = items; part = part } ∷ [];
+  before = before.More;
+}
+
+-- the part behind DOES> is a body of its own, with the name of the defining word
+abbrev pub part_by : Source → List ℕ → List HostItem → Nodes → ParserState → Ending → ParseResult Source
+part_by source name items nodes at ending.Semicolon = Fine (with_defining (with_body source name nodes at) name items (Some at.definitions))
+part_by source name items nodes at e = unfit at
+
+-- a defining word, behind its CREATE
+abbrev pub defining_at : ℕ → Source → List ℕ → ParserState → ParseResult Source
+defining_at n source name at = host_part_at n at >>= λ part. elim part.does [
+  | true ↦ items_at n (record part.at { does = true }) >>= λ many. part_by source name part.items many.nodes many.at many.ending
+  | false ↦ Fine (with_defining (record source { at = part.at }) name part.items None)
+]
+
+-- a definition, by its first token
 abbrev pub definition_by : ℕ → Source → List ℕ → ReadToken → ParseResult Source
 definition_by n source name seen = elim (is_create seen.sense) [
-  | true ↦ NotBuilt
-  | false ↦ items_by (items_at n) n seen.at seen.sense >>= λ many. defined_by source name many.nodes many.at many.ending
+  | true ↦ defining_at n source name seen.at
+  | false ↦ items_by (items_at n) n seen.at seen.sense >>= λ many. ended_by source name many.nodes many.at many.ending
 ]
 
 abbrev pub definition_named : ℕ → Source → Named → ParseResult Source
@@ -83,30 +104,45 @@ definition_named n source named = token_at named.at >>= definition_by n source n
 abbrev pub definition_at : ℕ → Source → ParserState → ParseResult Source
 definition_at n source at = name_at at >>= definition_named n source
 
-abbrev pub is_colon : Word → Bool
-is_colon Colon = true
-is_colon word = false
+-- ---- outside definitions
 
-abbrev pub is_colon_name : Option Word → Bool
-is_colon_name (Some word) = is_colon word
-is_colon_name None = false
-
--- what stands outside definitions: a `:` or the end of the text, and where it ends
+-- a token outside definitions, or none at the end of the text, and where it ends
 pub record OutsideToken : Type 0 where
-  pub begins : Bool
+  pub sense : Option OutsideSense
   pub at : ParserState
 
--- every other token is not built
 abbrev pub outside_of : ParserState → Reading → ParseResult OutsideToken
-outside_of at (NoMore tokens) = Fine (record { begins = false; at = record at { rest = []; count = tokens } })
+outside_of at (NoMore tokens) = Fine (record { sense = None; at = record at { rest = []; count = tokens } })
 outside_of at (Refuses number c) = Refused number (source_cause c)
-outside_of at (Reads token number rest) = elim (is_colon_name (word_named token)) [
-  | true ↦ Fine (record { begins = true; at = record at { rest = rest; count = number } })
-  | false ↦ NotBuilt
-]
+outside_of at (Reads token number rest) = Fine (record { sense = Some (outside_sense_in at.entries (base_at at) token); at = record at { rest = rest; count = number } })
 
 abbrev pub outside_at : ParserState → ParseResult OutsideToken
 outside_at at = outside_of at (next_from at.count at.rest)
+
+-- the defining word with a number names a child; each defining word that is found has its number
+abbrev pub child_by : Option DefiningWord → ParserState → ParseResult ParserState
+child_by (Some word) at = child_at word at
+child_by None at = only_inside at
+
+-- the source behind what was done
+abbrev pub resumed : Source → OutsideSense → ParserState → ParseResult Source
+resumed source sense at = Fine (record source { at = at; before = before_next source.before sense })
+
+-- a definition, or what is done at once
+abbrev pub outside_by : ℕ → Source → ParserState → OutsideSense → ParseResult Source
+outside_by n source at Begins = definition_at n source at
+outside_by n source at (Acts item) = acted_at item at >>= resumed source (Acts item)
+outside_by n source at NamesConstant = constant_at at >>= resumed source NamesConstant
+outside_by n source at NamesVariable = variable_at at >>= resumed source NamesVariable
+outside_by n source at NamesAddress = create_at at >>= resumed source NamesAddress
+outside_by n source at (NamesChild number) = child_by (slice_get source.defining number) at >>= resumed source (NamesChild number)
+outside_by n source at Ticks = outside_tick_at at >>= resumed source Ticks
+outside_by n source at Spells = outside_char_at at >>= resumed source Spells
+outside_by n source at Splits = code_cells_at (is_due source.before) at >>= resumed source Splits
+outside_by n source at Quoted = quoted_at cause.OnlyInDefinition at
+outside_by n source at OutOfRange = Refused at.count cause.NumberRange
+outside_by n source at Unknown = Refused at.count cause.UnknownWord
+outside_by n source at Forbidden = only_inside at
 
 -- the program of these definitions, whose source has so many tokens and leaves this for host words
 abbrev pub program_with : List (List ℕ) → List Nodes → ℕ → ℕ → Host → SourceProgram
@@ -136,11 +172,11 @@ program_of_source source at = elim (main_of (newest_value at.entries (codes "MAI
   | None ↦ Refused (at.count + 1) cause.NoMain
 ]
 
--- a definition and what follows it, or the end
+-- a definition or what is done at once, and what follows it, or the end
 abbrev pub source_by : (Source → ParseResult SourceProgram) → ℕ → Source → OutsideToken → ParseResult SourceProgram
-source_by go n source outside = elim outside.begins [
-  | true ↦ definition_at n source outside.at >>= go
-  | false ↦ program_of_source source outside.at
+source_by go n source outside = elim outside.sense [
+  | Some sense ↦ outside_by n source outside.at sense >>= go
+  | None ↦ program_of_source source outside.at
 ]
 
 -- the program of a source from a place outside definitions on, where fewer than n tokens are read
@@ -154,11 +190,11 @@ first_host = record { stack = []; space = first_space 8192; tokens = [] }
 
 -- a text at its start
 abbrev pub beginning : List ℕ → ParserState
-beginning text = record { rest = text; count = 0; weight = 0; nest = []; entries = []; definitions = 0; host = first_host }
+beginning text = record { rest = text; count = 0; weight = 0; nest = []; entries = []; definitions = 0; host = first_host; does = false }
 
 abbrev pub source_start : List ℕ → Source
-source_start text = record { at = beginning text; names = []; bodies = [] }
+source_start text = record { at = beginning text; names = []; bodies = []; defining = []; before = before.Nothing }
 
--- the program of a text, its first refusal, or that it is not built yet
+-- the program of a text, or its first refusal
 abbrev pub program_of_text : List ℕ → ParseResult SourceProgram
 program_of_text text = source_at (suc (length text)) (source_start text)

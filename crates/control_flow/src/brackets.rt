@@ -1,16 +1,16 @@
 // Host words in brackets.
 ghost use Rattle.std.specs.Prelude.{◌≡◌, ℕ, ◌<◌, ◌≤◌, length, OnOk};
 ghost use Rattle.control_flow.specs.Brackets.{acted_at, quoted_at, bracket_at};
-ghost use Rattle.control_flow.specs.Answers.{parser_state, IsReadyParser, AnswersAs};
+ghost use Rattle.control_flow.specs.Answers.{parser_state, IsReadyParser, FailsAs, AnswersAs};
 
 use crate::host_sense::HostSense;
 use crate::parser::Parser;
-use crate::refusal::{SourceCause, SourceError, host_cause};
+use crate::refusal::{SourceCause, SourceError, SourceRefusal, host_cause};
 use host_state::{HostError, HostItem};
 
 impl<'a> Parser<'a> {
     /// A number or a host word acts at once.
-    fn act(&mut self, item: HostItem) -> Result<(), SourceError>
+    pub(crate) fn act(&mut self, item: HostItem) -> Result<(), SourceError>
         requires { IsReadyParser self.old }
         ensures gives { AnswersAs (λ _. parser_state self.new) result (acted_at item (parser_state self.old)) }
         ensures same { length self.new.reader.rest ≡ length self.old.reader.rest }
@@ -24,12 +24,17 @@ impl<'a> Parser<'a> {
     }
 
     /// A string word reads its text before it is refused.
-    fn quoted(&mut self) -> Result<(), SourceError>
+    pub(crate) fn quoted(&mut self, cause: SourceCause) -> SourceError
         requires { IsReadyParser self.old }
-        ensures gives { AnswersAs (λ _. parser_state self.new) result (quoted_at (parser_state self.old)) }
+        ensures { FailsAs result (quoted_at {A = Unit {0}} cause (parser_state self.old)) }
     {
-        self.quotation()?;
-        self.refuse(SourceCause::NotInDefinition)
+        match self.quotation() {
+            Ok(_) => SourceError::Refused(SourceRefusal {
+                token: self.reader.count(),
+                cause,
+            }),
+            Err(error) => error,
+        }
     }
 
     /// From behind a `[` to behind its `]`.
@@ -50,7 +55,9 @@ impl<'a> Parser<'a> {
                     Err(error) => return Err(error),
                 },
                 HostSense::Closes => return Ok(()),
-                HostSense::Quoted => return self.quoted(),
+                HostSense::Ends => return self.refuse(SourceCause::NotInDefinition),
+                HostSense::Does => return self.refuse(SourceCause::NotInDefinition),
+                HostSense::Quoted => return Err(self.quoted(SourceCause::NotInDefinition)),
                 HostSense::OutOfRange => {
                     return self.refuse(SourceCause::NumberRange);
                 }

@@ -7,13 +7,17 @@ use forth_reader::{NumberRead, number_of};
 use host_state::{HostItem, HostWord, Known};
 use word_table::{Word, word_of};
 
-/// What a token stands for in brackets.
+/// What a token stands for in brackets and in the host part of a defining word.
 #[derive(Clone, Copy)]
 pub(crate) enum HostSense {
     /// A number, a constant, a created address or a plain host word: it acts at once.
     Acts(HostItem),
     /// `]`.
     Closes,
+    /// `;`.
+    Ends,
+    /// `DOES>`.
+    Does,
     /// A string word.
     Quoted,
     /// A number that is out of range.
@@ -25,7 +29,7 @@ pub(crate) enum HostSense {
 }
 
 /// The plain host words of the table.
-fn host_word(word: Word) -> Option<HostWord>
+pub(crate) fn host_word(word: Word) -> Option<HostWord>
     ensures { result ≡ host_word word }
 {
     match word {
@@ -86,6 +90,8 @@ fn word_host_sense(word: Word) -> HostSense
 {
     match word {
         Word::RightBracket => HostSense::Closes,
+        Word::Semicolon => HostSense::Ends,
+        Word::Does => HostSense::Does,
         Word::SQuote => HostSense::Quoted,
         Word::DotQuote => HostSense::Quoted,
         Word::AbortQuote => HostSense::Quoted,

@@ -176,6 +176,9 @@ impl<'a> Parser<'a> {
             Sense::Calls(definition) => self.alone(1, Item::Call(DefId(definition))),
             Sense::Inherits(part, address) => self.alone(2, Item::Child(DefId(part), address)),
             Sense::Recurses => {
+                if self.does {
+                    return self.refuse(SourceCause::NotInDefinition);
+                }
                 let definition = DefId(self.definitions);
                 self.alone(entry(Word::Recurse).weight, Item::Call(definition))
             }

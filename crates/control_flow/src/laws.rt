@@ -3,7 +3,7 @@ ghost use Rattle.control_flow.specs.SourceLaw.{EachIsJudged, EachProgramIsSource
 
 use host_state::host_words_keep;
 
-/// Each text has a program or a first refusal, or has a token first that is not built yet: the definition never gives up.
+/// Each text has a program or a first refusal: the definition never gives up.
 pub fn texts_are_judged()
     ensures { EachIsJudged }
 {

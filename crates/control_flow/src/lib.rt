@@ -1,16 +1,20 @@
 //! Reads the program of a Forth source text: its definitions, or why it is refused.
 //!
-//! Today a text is definitions `: NAME items ;` with comments anywhere. Items are numbers in the present base, words, calls, structures, string
-//! words, `[']` and `[CHAR]` with a name, and `LITERAL`; between them host words may act in brackets. What stands outside definitions, and a
-//! definition that begins with `CREATE`, is not built yet. In `specs/`, `SourceText` computes the program of a text, its first refusal, or
-//! that it is not built yet.
+//! A text is definitions `: NAME items ;` with host words between them: they fill the data image, and give names to constants, created
+//! addresses and children of defining words. Items are numbers in the present base, words, calls, structures, string words, `[']` and
+//! `[CHAR]` with a name, and `LITERAL`; between them host words may act in brackets. In `specs/`, `SourceText` computes the program of a
+//! text, or its first refusal.
 #![tactic(auto)]
 
+mod before;
 mod brackets;
+mod host_parts;
 mod host_sense;
 mod items;
 mod laws;
 mod nest;
+mod outside_sense;
+mod outside_words;
 mod parser;
 mod refusal;
 mod sense;

@@ -1,18 +1,21 @@
 // A place in a source, its tokens and their weights.
-ghost use Rattle.std.specs.Prelude.{◌≡◌, ◌<◌, ◌≤◌, length, true, OnOk, IfOk};
+ghost use Rattle.std.specs.Prelude.{◌≡◌, ◌<◌, ◌≤◌, length, Some, OnOk, IfOk};
 ghost use Rattle.forth_reader.specs.Name.{IsName};
 ghost use Rattle.control_flow.specs.ParseResult.{weighed_as, weighed};
 ghost use Rattle.control_flow.specs.Sense.{sense_in};
 ghost use Rattle.control_flow.specs.HostSense.{host_sense_in};
 ghost use Rattle.control_flow.specs.ReadTokens.{base_at, token_at, host_token_at, spelled_at, quotation_at};
 ghost use Rattle.control_flow.specs.Items.{opened_at, ended_at};
-ghost use Rattle.control_flow.specs.SourceText.{name_at, outside_at};
+ghost use Rattle.control_flow.specs.OutsideSense.{outside_sense_in};
+ghost use Rattle.control_flow.specs.OutsideWords.{name_at};
+ghost use Rattle.control_flow.specs.SourceText.{outside_at};
 ghost use Rattle.control_flow.specs.Answers.{parser_state, IsReadyParser, AnswersAs};
 
 use crate::host_sense::{HostSense, host_sense_of, known_host_sense};
 use crate::nest::{Ending, Nest, Opening, ending_word, open_of, opening_word};
+use crate::outside_sense::{OutsideSense, known_outside_sense, outside_sense_of};
 use crate::refusal::{SourceCause, SourceError, refused, source_cause};
-use crate::sense::{Sense, is_colon_name, is_reserved_name, known_sense, sense_of};
+use crate::sense::{Sense, is_reserved_name, known_sense, sense_of};
 use dictionary_core::Dictionary;
 use forth_reader::Reader;
 use host_state::{Entry, HostState};
@@ -32,6 +35,8 @@ pub(crate) struct Parser<'a> {
     pub(crate) definitions: u16,
     /// What host words act on.
     pub(crate) host: HostState,
+    /// Whether the part behind a `DOES>` is read.
+    pub(crate) does: bool,
 }
 
 impl<'a> Parser<'a> {
@@ -114,6 +119,19 @@ impl<'a> Parser<'a> {
         }
     }
 
+    /// What a token stands for outside definitions.
+    fn outside_sense(&mut self, token: &str) -> OutsideSense
+        ensures value { result ≡ outside_sense_in self.old.dictionary.pairs (base_at (parser_state self.old)) token.now }
+        ensures same { parser_state self.new ≡ parser_state self.old }
+        ensures reader { self.new.reader ≡ self.old.reader }
+        ensures weight { self.new.weight ≡ self.old.weight }
+    {
+        match self.dictionary.look_up(token) {
+            Some(entry) => known_outside_sense(entry.known),
+            None => outside_sense_of(token, self.host.base()),
+        }
+    }
+
     /// The next token of a definition, by what it stands for.
     pub(crate) fn token(&mut self) -> Result<Sense, SourceError>
         requires { IsReadyParser self.old }
@@ -178,28 +196,22 @@ impl<'a> Parser<'a> {
         }
     }
 
-    /// What stands outside definitions: true for a `:`, and false for the end of the text.
-    pub(crate) fn outside(&mut self) -> Result<bool, SourceError>
+    /// The next token outside definitions, by what it stands for, or none at the end of the text.
+    pub(crate) fn outside(&mut self) -> Result<Option<OutsideSense>, SourceError>
         requires { IsReadyParser self.old }
-        ensures gives { AnswersAs (λ begins. record { begins = begins; at = parser_state self.new }) result (outside_at (parser_state self.old)) }
-        ensures shorter { IfOk result (λ begins. begins ≡ true → length self.new.reader.rest < length self.old.reader.rest) }
+        ensures gives { AnswersAs (λ sense. record { sense = sense; at = parser_state self.new }) result (outside_at (parser_state self.old)) }
+        ensures shorter { IfOk result (λ sense. (s : OutsideSense) → sense ≡ Some s → length self.new.reader.rest < length self.old.reader.rest) }
         ensures ready { OnOk result (IsReadyParser self.new) }
-        ensures kept { (self.new.dictionary ≡ self.old.dictionary) × (self.new.definitions ≡ self.old.definitions) }
+        ensures kept { (self.new.dictionary.pairs ≡ self.old.dictionary.pairs) × (self.new.definitions ≡ self.old.definitions) }
     {
         match self.reader.next() {
             Err(refusal) => refused(refusal.token, source_cause(refusal.cause)),
-            Ok(None) => Ok(false),
-            Ok(Some(token)) => {
-                if is_colon_name(token.text) {
-                    Ok(true)
-                } else {
-                    Err(SourceError::NotYet)
-                }
-            }
+            Ok(None) => Ok(None),
+            Ok(Some(token)) => Ok(Some(self.outside_sense(token.text))),
         }
     }
 
-    /// The name of a definition, behind its `:`.
+    /// The name behind `:` or behind another word that defines it.
     pub(crate) fn name(&mut self) -> Result<&'a str, SourceError>
         requires { IsReadyParser self.old }
         ensures gives { AnswersAs (λ name. record { name = name.now; at = parser_state self.new }) result (name_at (parser_state self.old)) }

@@ -24,9 +24,9 @@ pub enum SourceCause {
     UnknownWord,
     /// The token has the form of a number and is out of range.
     NumberRange,
-    /// The word cannot stand inside a definition.
+    /// The word cannot stand inside a definition, in brackets or in the host part of a defining word.
     NotInDefinition,
-    /// The word can stand only inside a definition.
+    /// The word or the name can stand only inside a definition.
     OnlyInDefinition,
     /// The word does not fit the open structure.
     BadNest,
@@ -65,9 +65,6 @@ pub enum SourceError {
     Refused(SourceRefusal),
     /// There was no memory for the program.
     OutOfMemory,
-    /// A token comes first that this version does not build yet: one outside definitions that is no `:`, or the `CREATE` with which a
-    /// definition begins. The variant goes away when the whole language is built.
-    NotYet,
 }
 
 /// A refusal of a token.

@@ -2,7 +2,7 @@
 ghost use Rattle.std.specs.Prelude.{◌≡◌};
 ghost use Rattle.word_table.specs.Names.{word_named};
 ghost use Rattle.control_flow.specs.Sense.{sense_by, word_sense, acting_sense, structure_sense, number_sense, known_sense, is_create};
-ghost use Rattle.control_flow.specs.SourceText.{is_reserved, is_reserved_name, is_colon, is_colon_name};
+ghost use Rattle.control_flow.specs.OutsideWords.{is_reserved, is_reserved_name};
 
 use crate::nest::{Ending, Opening};
 use forth_program::TextKind;
@@ -178,25 +178,6 @@ pub(crate) fn is_reserved_name(token: &str) -> bool
 {
     match word_of(token) {
         Some(word) => is_reserved(word),
-        None => false,
-    }
-}
-
-fn is_colon(word: Word) -> bool
-    ensures { result ≡ is_colon word }
-{
-    match word {
-        Word::Colon => true,
-        _ => false,
-    }
-}
-
-/// Whether the token is `:`.
-pub(crate) fn is_colon_name(token: &str) -> bool
-    ensures { result ≡ is_colon_name (word_named token.now) }
-{
-    match word_of(token) {
-        Some(word) => is_colon(word),
         None => false,
     }
 }

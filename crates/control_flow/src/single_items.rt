@@ -15,7 +15,7 @@ use host_state::{HostError, Ticked};
 use word_table::{Word, entry};
 
 /// The byte with which a name begins.
-fn first_byte(name: &str) -> u16
+pub(crate) fn first_byte(name: &str) -> u16
     requires { IsName name.now }
     ensures { result ≡ first_byte name.now }
 {
@@ -98,7 +98,7 @@ impl<'a> Parser<'a> {
     }
 
     /// What the name stands for that is ticked.
-    fn ticked(&mut self, name: &str) -> Result<Ticked, SourceCause>
+    pub(crate) fn ticked(&mut self, name: &str) -> Result<Ticked, SourceCause>
         ensures value { result ≡ ticked_in self.old.dictionary.pairs name.now }
         ensures same { parser_state self.new ≡ parser_state self.old }
         ensures reader { self.new.reader ≡ self.old.reader }

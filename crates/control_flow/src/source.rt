@@ -4,10 +4,12 @@ ghost use Rattle.forth_program.specs.Form.{IsProgram};
 ghost use Rattle.forth_program.specs.ItemTrees.{tree_of};
 ghost use Rattle.forth_reader.specs.Name.{IsName};
 ghost use Rattle.control_flow.specs.ParseResult.{Each};
-ghost use Rattle.control_flow.specs.SourceText.{main_of, source_start, with_definition, definition_at, program_of_source, program_of_text};
+ghost use Rattle.control_flow.specs.SourceText.{main_of, source_start, with_body, with_definition, with_defining, defining_at, definition_at, outside_by, program_of_source, program_of_text};
 ghost use Rattle.control_flow.specs.Answers.{parser_state, source_of, IsReadyParser, IsCounted, AnswersAs};
 
+use crate::before::{Before, before_next, is_due};
 use crate::nest::{Ending, Nest};
+use crate::outside_sense::OutsideSense;
 use crate::parser::Parser;
 use crate::refusal::{SourceCause, SourceError, refused};
 use crate::sense::is_create;
@@ -15,7 +17,7 @@ use crate::ticks::program_tokens;
 use dictionary_core::Dictionary;
 use forth_program::{DefId, Items, Name, Program, ProgramParts};
 use forth_reader::Reader;
-use host_state::{Entry, HostState, Known, host_words_keep};
+use host_state::{Entry, HostItem, HostState, Known, host_words_keep};
 use std::alloc::{AllocError, Global};
 
 /// What is read of a source so far.
@@ -26,6 +28,17 @@ pub(crate) struct ReadSource<'a> {
     pub(crate) names: Vec<Name>,
     /// The items of each definition, in the same order.
     pub(crate) bodies: Vec<Items>,
+    /// The defining words.
+    pub(crate) defining: Vec<DefiningWord>,
+    /// What stands before the next token outside definitions.
+    pub(crate) before: Before,
+}
+
+/// A defining word: its host part, and the definition behind its `DOES>` where it has one.
+#[derive(Drop)]
+pub(crate) struct DefiningWord {
+    pub(crate) items: Vec<HostItem>,
+    pub(crate) part: Option<u16>,
 }
 
 /// The definition that a name stands for.
@@ -59,30 +72,26 @@ impl<'a> ReadSource<'a> {
                 dictionary,
                 definitions: 0,
                 host,
+                does: false,
             },
             names: Vec::new(alloc),
             bodies: Vec::new(alloc),
+            defining: Vec::new(alloc),
+            before: Before::Nothing,
         })
     }
 
-    /// A definition that was read stands behind the others, and its name is found from here on.
-    fn define(&mut self, name: &str, items: Items) -> Result<(), SourceError>
+    /// A body more, with its name.
+    fn keep(&mut self, name: &str, items: Items) -> Result<(), SourceError>
         requires form { IsName name.now }
-        requires ready { IsReadyParser self.old.parser }
         requires counted { IsCounted self.old }
-        ensures done { OnOk result (source_of self.new ≡ with_definition (source_of self.old) name.now (tree_of items) (parser_state self.old.parser)) }
+        requires due { self.old.parser.definitions < length self.old.parser.dictionary.pairs }
+        requires few { length self.old.parser.dictionary.pairs ≤ 512 }
+        ensures done { OnOk result (source_of self.new ≡ with_body (source_of self.old) name.now (tree_of items) (parser_state self.old.parser)) }
         ensures memory { IfErr result (λ error. error ≡ SourceError.OutOfMemory) }
-        ensures same { length self.new.parser.reader.rest ≡ length self.old.parser.reader.rest }
-        ensures ready { OnOk result (IsReadyParser self.new.parser) }
+        ensures kept { OnOk result (self.new.parser ≡ record self.old.parser { definitions = self.old.parser.definitions + 1 }) }
         ensures counted { OnOk result (IsCounted self.new) }
-        ensures longer { OnOk result (length self.new.bodies.items ≡ length self.old.bodies.items + 1) }
     {
-        let known = Known::Definition(self.parser.definitions);
-        let number = self.parser.dictionary.len() as u16;
-        match self.parser.dictionary.add(name, Entry { number, known }) {
-            Ok(_) => {}
-            Err(_) => return Err(SourceError::OutOfMemory),
-        }
         let kept = match Name::new(name) {
             Some(kept) => kept,
             None => unreachable!(),
@@ -99,6 +108,82 @@ impl<'a> ReadSource<'a> {
         Ok(())
     }
 
+    /// A definition that was read, whose name is found from here on.
+    fn define(&mut self, name: &str, items: Items) -> Result<(), SourceError>
+        requires form { IsName name.now }
+        requires ready { IsReadyParser self.old.parser }
+        requires counted { IsCounted self.old }
+        requires room { length self.old.parser.dictionary.pairs < 512 }
+        ensures done { OnOk result (source_of self.new ≡ with_definition (source_of self.old) name.now (tree_of items) (parser_state self.old.parser)) }
+        ensures memory { IfErr result (λ error. error ≡ SourceError.OutOfMemory) }
+        ensures same { OnOk result (length self.new.parser.reader.rest ≡ length self.old.parser.reader.rest) }
+        ensures ready { OnOk result (IsReadyParser self.new.parser) }
+        ensures counted { OnOk result (IsCounted self.new) }
+    {
+        let definition = self.parser.definitions;
+        self.parser.enter(name, Known::Definition(definition))?;
+        self.before = Before::More;
+        self.keep(name, items)
+    }
+
+    /// A defining word that was read, whose name is found from here on.
+    fn define_defining(
+        &mut self,
+        name: &str,
+        items: Vec<HostItem>,
+        part: Option<u16>,
+    ) -> Result<(), SourceError>
+        requires form { IsName name.now }
+        requires ready { IsReadyParser self.old.parser }
+        requires counted { IsCounted self.old }
+        requires room { length self.old.parser.dictionary.pairs < 512 }
+        ensures done { OnOk result (source_of self.new ≡ with_defining (source_of self.old) name.now items.items part) }
+        ensures memory { IfErr result (λ error. error ≡ SourceError.OutOfMemory) }
+        ensures longer { OnOk result (length self.new.parser.dictionary.pairs ≡ length self.old.parser.dictionary.pairs + 1) }
+        ensures kept { OnOk result (self.new.parser.definitions ≡ self.old.parser.definitions) }
+        ensures same { OnOk result (length self.new.parser.reader.rest ≡ length self.old.parser.reader.rest) }
+        ensures ready { OnOk result (IsReadyParser self.new.parser) }
+        ensures counted { OnOk result (IsCounted self.new) }
+    {
+        let number = self.defining.len() as u16;
+        self.parser.enter(name, Known::Defining(number))?;
+        match self.defining.push(DefiningWord { items, part }) {
+            Ok(()) => {}
+            Err(_) => return Err(SourceError::OutOfMemory),
+        }
+        self.parser.does = false;
+        self.before = Before::More;
+        Ok(())
+    }
+
+    /// A defining word behind its CREATE.
+    fn defining_word(&mut self, alloc: Global, name: &str) -> Result<(), SourceError>
+        requires form { IsName name.now }
+        requires ready { IsReadyParser self.old.parser }
+        requires counted { IsCounted self.old }
+        requires room { length self.old.parser.dictionary.pairs < 512 }
+        ensures gives { (n : ℕ) → length self.old.parser.reader.rest < n → AnswersAs (λ _. source_of self.new) result (defining_at n (source_of self.old) name.now (parser_state self.old.parser)) }
+        ensures shorter { OnOk result (length self.new.parser.reader.rest ≤ length self.old.parser.reader.rest) }
+        ensures ready { OnOk result (IsReadyParser self.new.parser) }
+        ensures counted { OnOk result (IsCounted self.new) }
+    {
+        host_words_keep();
+        let part = self.parser.host_part(alloc)?;
+        if !part.does {
+            return self.define_defining(name, part.items, None);
+        }
+        self.parser.does = true;
+        let body = self.parser.items(alloc)?;
+        match body.ending {
+            Ending::Semicolon => {
+                let definition = self.parser.definitions;
+                self.define_defining(name, part.items, Some(definition))?;
+                self.keep(name, body.items)
+            }
+            _ => refused(self.parser.reader.count(), SourceCause::BadNest),
+        }
+    }
+
     /// A definition behind its `:`.
     fn definition(&mut self, alloc: Global) -> Result<(), SourceError>
         requires ready { IsReadyParser self.old.parser }
@@ -107,19 +192,49 @@ impl<'a> ReadSource<'a> {
         ensures shorter { OnOk result (length self.new.parser.reader.rest ≤ length self.old.parser.reader.rest) }
         ensures ready { OnOk result (IsReadyParser self.new.parser) }
         ensures counted { OnOk result (IsCounted self.new) }
-        ensures longer { OnOk result (length self.new.bodies.items ≡ length self.old.bodies.items + 1) }
     {
         host_words_keep();
         let name = self.parser.name()?;
         let first = self.parser.token()?;
         if is_create(first) {
-            return Err(SourceError::NotYet);
+            return self.defining_word(alloc, name);
         }
         let body = self.parser.items_from(alloc, first)?;
         match body.ending {
             Ending::Semicolon => self.define(name, body.items),
             _ => refused(self.parser.reader.count(), SourceCause::BadNest),
         }
+    }
+
+    /// A definition, or what is done at once, by its first token.
+    fn outside_word(&mut self, alloc: Global, sense: OutsideSense) -> Result<(), SourceError>
+        requires ready { IsReadyParser self.old.parser }
+        requires counted { IsCounted self.old }
+        ensures gives { (n : ℕ) → length self.old.parser.reader.rest < n → AnswersAs (λ _. source_of self.new) result (outside_by n (source_of self.old) (parser_state self.old.parser) sense) }
+        ensures shorter { OnOk result (length self.new.parser.reader.rest ≤ length self.old.parser.reader.rest) }
+        ensures ready { OnOk result (IsReadyParser self.new.parser) }
+        ensures counted { OnOk result (IsCounted self.new) }
+    {
+        match sense {
+            OutsideSense::Begins => return self.definition(alloc),
+            OutsideSense::Acts(item) => self.parser.act(item)?,
+            OutsideSense::NamesConstant => self.parser.constant()?,
+            OutsideSense::NamesVariable => self.parser.variable()?,
+            OutsideSense::NamesAddress => self.parser.create()?,
+            OutsideSense::NamesChild(number) => match self.defining.get(usize::from(number)) {
+                Some(word) => self.parser.child(word.items.as_slice(), word.part)?,
+                None => return self.parser.refuse(SourceCause::OnlyInDefinition),
+            },
+            OutsideSense::Ticks => self.parser.tick()?,
+            OutsideSense::Spells => self.parser.char()?,
+            OutsideSense::Splits => self.parser.split(alloc, is_due(self.before))?,
+            OutsideSense::Quoted => return Err(self.parser.quoted(SourceCause::OnlyInDefinition)),
+            OutsideSense::OutOfRange => return self.parser.refuse(SourceCause::NumberRange),
+            OutsideSense::Unknown => return self.parser.refuse(SourceCause::UnknownWord),
+            OutsideSense::Forbidden => return self.parser.refuse(SourceCause::OnlyInDefinition),
+        }
+        self.before = before_next(self.before, sense);
+        Ok(())
     }
 
     /// The program, at the end of the text.
@@ -132,6 +247,7 @@ impl<'a> ReadSource<'a> {
             mut parser,
             names,
             bodies,
+            ..
         } = self;
         let tokens = parser.reader.count();
         let Some(main) = main_of(parser.dictionary.look_up("MAIN")) else {
@@ -165,7 +281,7 @@ impl<'a> ReadSource<'a> {
 
 /// The program of a source text, or its first refusal.
 ///
-/// The text is read from its start, and the first token that is refused, or that is not built yet, decides. A refusal at the
+/// The text is read from its start, and the first token that is refused decides. A refusal at the
 /// end of the text has the number of all tokens and one more.
 pub fn read_program(alloc: Global, bytes: &[u8]) -> Result<Program, SourceError>
     requires { length bytes.now < 4294967295 }
@@ -176,15 +292,13 @@ pub fn read_program(alloc: Global, bytes: &[u8]) -> Result<Program, SourceError>
         Ok(source) => source,
         Err(AllocError) => return Err(SourceError::OutOfMemory),
     };
-    'definitions: loop {
-        let begins = match source.parser.outside() {
-            Ok(begins) => begins,
+    'tokens: loop {
+        let sense = match source.parser.outside() {
+            Ok(Some(sense)) => sense,
+            Ok(None) => return source.program(alloc),
             Err(error) => return Err(error),
         };
-        if !begins {
-            return source.program(alloc);
-        }
-        match source.definition(alloc) {
+        match source.outside_word(alloc, sense) {
             Ok(()) => {}
             Err(error) => return Err(error),
         }

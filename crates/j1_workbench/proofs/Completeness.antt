@@ -8,7 +8,7 @@ use Rattle.std.proofs.lemmas.List.Elements.{All-nil, All-cons}
 use Rattle.outside_io.specs.Causes.{Rose}
 use Rattle.forth_program.specs.Tree.{Node, Literal, Plain, Call, Child}
 use Rattle.forth_program.specs.Program.{SourceProgram}
-use Rattle.control_flow.specs.ParseResult.{ParseResult, Fine, Refused, NotBuilt, Endless}
+use Rattle.control_flow.specs.ParseResult.{ParseResult, Fine, Refused, Endless}
 use Rattle.control_flow.specs.SourceText.{program_of_text}
 use Rattle.control_flow.specs.SourceLaw.{is_read_token, EachIsJudged, EachProgramIsSource}
 use Rattle.control_flow.specs.declared.refusal.SourceCause.{SourceCause}
@@ -18,7 +18,7 @@ use Rattle.depth_certifier.specs.declared.effect.CertCause.{CertCause}
 use Rattle.depth_certifier.specs.Certificate.{Cert, IsValid}
 use Rattle.depth_certifier.specs.Rounds.{Refusal, RoundsRefuse, ProperToken, RoundsEnd, RoundsFindTheLeast, RefusedHaveNone, OneRefusal}
 use Rattle.j1_workbench.specs.declared.status.Status.{Status}
-use Rattle.j1_workbench.specs.declared.status.Status.TheVariants.{Done, Missing, SourceRefused, NotCertified, ReadFault, OutOfMemory, TooLarge, NotYet}
+use Rattle.j1_workbench.specs.declared.status.Status.TheVariants.{Done, Missing, SourceRefused, NotCertified, ReadFault, OutOfMemory, TooLarge}
 use Rattle.j1_workbench.specs.Surroundings.{Stream, FolderState, Surroundings}
 use Rattle.j1_workbench.specs.Files.{HoldsFile}
 use Rattle.j1_workbench.specs.Sources.{HasCertificate, IsUncertified, IsRefusedText, IsRefusedSource}
@@ -49,17 +49,15 @@ same_program text p q e f = cc
 clash : {A : Type 0} (text : List ℕ) → 65536 < length text → length text ≤ 65536 → A
 clash text long short = absurd (omega arith)
 
--- the four kinds of a refused text
+-- the three kinds of a refused text
 pub by_kind : (P : Status → Type 0) (text : List ℕ) (status : Status) (name : List ℕ) → IsRefusedText text status name →
     (65536 < length text → P TooLarge) →
     ((refusal : SourceRefusal) → length text ≤ 65536 → program_of_text text ≡ Refused refusal.token refusal.cause → P (SourceRefused refusal)) →
-    ((id : DefId) (cause : CertCause) → IsUncertified text id.0 cause name → P (NotCertified id cause)) →
-    (length text ≤ 65536 → program_of_text text ≡ NotBuilt → P NotYet) → P status
-by_kind P text TooLarge name refused long faulty uncertified unbuilt = long refused
-by_kind P text (SourceRefused refusal) name refused long faulty uncertified unbuilt = faulty refusal refused.0 refused.1
-by_kind P text (NotCertified id cause) name refused long faulty uncertified unbuilt = uncertified id cause refused
-by_kind P text NotYet name refused long faulty uncertified unbuilt = unbuilt refused.0 refused.1
-by_kind P text status name refused long faulty uncertified unbuilt = absurd refused
+    ((id : DefId) (cause : CertCause) → IsUncertified text id.0 cause name → P (NotCertified id cause)) → P status
+by_kind P text TooLarge name refused long faulty uncertified = long refused
+by_kind P text (SourceRefused refusal) name refused long faulty uncertified = faulty refusal refused.0 refused.1
+by_kind P text (NotCertified id cause) name refused long faulty uncertified = uncertified id cause refused
+by_kind P text status name refused long faulty uncertified = absurd refused
 
 pub refused_not_certified : (text : List ℕ) (status : Status) (name : List ℕ) (p : SourceProgram) (z : Cert) → IsRefusedText text status name → HasCertificate text p z → ⊥
 refused_not_certified text status name p z refused c =
@@ -67,7 +65,6 @@ refused_not_certified text status name p z refused c =
     (λ long. clash text long c.short)
     (λ refusal short e. let f = c.program_is in cc)
     (λ id cause u. u.none z (subst (λ q. IsValid q z) (same_program text p u.program c.program_is u.program_is) c.least.valid))
-    (λ short e. let f = c.program_is in cc)
 
 same_outcome : (text : List ℕ) (r s : SourceRefusal) → program_of_text text ≡ Refused r.token r.cause → program_of_text text ≡ Refused s.token s.cause → SourceRefused r ≡ SourceRefused s
 same_outcome text r s e f =
@@ -91,15 +88,13 @@ same_definition p id other cause reason one first second =
 pub one_refusal : OneRefusal → (text : List ℕ) (status other : Status) (name called : List ℕ) → IsRefusedText text status name → IsRefusedText text other called → status ≡ other
 one_refusal one text status other name called first second =
     by_kind (λ s. s ≡ other) text status name first
-    (λ long. by_kind (λ s. TooLarge ≡ s) text other called second (λ again. refl) (λ r short e. clash text long short) (λ id cause u. clash text long u.short) (λ short e. clash text long short))
-    (λ r short e. by_kind (λ s. SourceRefused r ≡ s) text other called second (λ long. clash text long short) (λ s again f. same_outcome text r s e f) (λ id cause u. let f = u.program_is in cc) (λ again f. cc))
+    (λ long. by_kind (λ s. TooLarge ≡ s) text other called second (λ again. refl) (λ r short e. clash text long short) (λ id cause u. clash text long u.short))
+    (λ r short e. by_kind (λ s. SourceRefused r ≡ s) text other called second (λ long. clash text long short) (λ s again f. same_outcome text r s e f) (λ id cause u. let f = u.program_is in cc))
     (λ id cause u. by_kind (λ s. NotCertified id cause ≡ s) text other called second (λ long. clash text long u.short) (λ r short e. let f = u.program_is in cc)
     (λ other reason v.
     same_definition u.program id other cause reason one u.refusal
     (subst (λ p. RoundsRefuse p (record { definition = other.0; reason = reason })) (same_program text v.program u.program v.program_is u.program_is)
-    v.refusal))
-    (λ short e. let f = u.program_is in cc))
-    (λ short e. by_kind (λ s. NotYet ≡ s) text other called second (λ long. clash text long short) (λ r again f. cc) (λ id cause u. let f = u.program_is in cc) (λ again f. refl))
+    v.refusal)))
 
 -- ---- what a command finds in a file that is told
 
@@ -215,7 +210,6 @@ proper_tokens count (node ∷ nodes) e =
 judged_outcome : EachIsJudged → EachProgramIsSource → RoundsEnd → RoundsFindTheLeast → RefusedHaveNone → (text : List ℕ) (outcome : ParseResult SourceProgram) → program_of_text text ≡ outcome → length text ≤ 65536 → IsJudged text
 judged_outcome each sources end least none text (Fine p) is short = judged_program end least none text p short is (proper_tokens (length p.bodies) p.tokens (sources text p is).token_items)
 judged_outcome each sources end least none text (Refused token cause) is short = inl (SourceRefused (record { token = token; cause = cause }), [], (short, is))
-judged_outcome each sources end least none text NotBuilt is short = inl (NotYet, [], (short, is))
 judged_outcome each sources end least none text Endless is short = absurd (each text is)
 
 judged : EachIsJudged → EachProgramIsSource → RoundsEnd → RoundsFindTheLeast → RefusedHaveNone → (text : List ℕ) → IsJudged text
@@ -233,7 +227,6 @@ not_refused text status name p refused reading is =
     (λ long r. clash text long is.short)
     (λ refusal short e r. let f = is.program_is in cc)
     (λ id cause u r. r)
-    (λ short e r. let f = is.program_is in cc)
     reading
 
 eval_refusal : OneRefusal → (text : List ℕ) (status : Status) (name : List ℕ) → IsReading status → (status ≡ OutOfMemory) ⊎ IsRefusedText text status name → IsEvaluated text status

@@ -16,12 +16,12 @@ use Rattle.depth_certifier.specs.Rounds.{RoundsRefuse}
 use Rattle.depth_certifier.specs.Settling.{IsRefusal}
 use Rattle.forth_program.specs.declared.item.DefId.{DefId}
 use Rattle.j1_workbench.specs.declared.status.Status.{Status}
-use Rattle.j1_workbench.specs.declared.status.Status.TheVariants.{Done, BadWords, Missing, SourceRefused, NotCertified, StepsUsed, InputEnded, Outside, Halted, ReadFault, WriteFault, OutOfMemory, TooLarge, NotYet}
+use Rattle.j1_workbench.specs.declared.status.Status.TheVariants.{Missing, SourceRefused, NotCertified, ReadFault, OutOfMemory, TooLarge}
 use Rattle.j1_workbench.specs.Notes.{named}
 use Rattle.j1_workbench.specs.Evaluating.{IsReading}
 use Rattle.j1_workbench.specs.Surroundings.{FolderState}
 use Rattle.j1_workbench.specs.Files.{HoldsFile, IsRead, IsUnread}
-use Rattle.j1_workbench.specs.Sources.{HasCertificate, IsUncertified, IsCertifiedSource, IsRefusedText, IsRefusedSource}
+use Rattle.j1_workbench.specs.Sources.{IsUncertified, IsRefusedText, IsRefusedSource}
 
 some_same : {A : Type 0} (x y : A) → Some x ≡ Some y → x ≡ y
 some_same x y e = cc
@@ -60,7 +60,6 @@ read_source : (source text : List ℕ) (before after : FolderState) (status : St
 read_source source text before after TooLarge name holds refused = (text, holds, refused)
 read_source source text before after (SourceRefused refusal) name holds refused = (text, holds, refused)
 read_source source text before after (NotCertified id cause) name holds refused = (text, holds, refused)
-read_source source text before after NotYet name holds refused = (text, holds, refused)
 read_source source text before after status name holds refused = absurd refused
 
 pub refused_read : (source text : List ℕ) (before after : FolderState) (status : Status) (name : List ℕ) →

@@ -38,7 +38,7 @@ use Rattle.j1_workbench.proofs.Completeness.{by_kind, same_program}
 never_refused : (text : List ℕ) (p : SourceProgram) (z : Cert) (status : Status) (name : List ℕ) → length text ≤ 65536 → program_of_text text ≡ Fine p → IsValid p z → IsRefusedText text status name → ⊥
 never_refused text p z status name short is valid refused =
     by_kind (λ s. ⊥) text status name refused (λ long. absurd (omega arith)) (λ refusal short e. cc)
-    (λ id cause u. u.none z (subst (λ q. IsValid q z) (same_program text p u.program is u.program_is) valid)) (λ short e. cc)
+    (λ id cause u. u.none z (subst (λ q. IsValid q z) (same_program text p u.program is u.program_is) valid))
 
 -- ---- its image halts
 

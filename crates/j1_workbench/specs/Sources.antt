@@ -3,13 +3,13 @@ use Rattle.std.specs.Prelude.{◌≡◌, ◌<◌, ◌≤◌, ℕ, List, [], leng
 use Rattle.outside_io.specs.Causes.{Rose}
 use Rattle.outside_io.specs.Files.{Lacks}
 use Rattle.forth_program.specs.Program.{SourceProgram}
-use Rattle.control_flow.specs.ParseResult.{Fine, Refused, NotBuilt}
+use Rattle.control_flow.specs.ParseResult.{Fine, Refused}
 use Rattle.control_flow.specs.SourceText.{program_of_text}
 use Rattle.depth_certifier.specs.Certificate.{Cert, IsValid}
 use Rattle.depth_certifier.specs.declared.effect.CertCause.{CertCause}
 use Rattle.depth_certifier.specs.Rounds.{IsLeast, RoundsRefuse}
 use Rattle.j1_workbench.specs.declared.status.Status.{Status}
-use Rattle.j1_workbench.specs.declared.status.Status.TheVariants.{Missing, SourceRefused, NotCertified, ReadFault, OutOfMemory, TooLarge, NotYet}
+use Rattle.j1_workbench.specs.declared.status.Status.TheVariants.{Missing, SourceRefused, NotCertified, ReadFault, OutOfMemory, TooLarge}
 use Rattle.j1_workbench.specs.Surroundings.{FolderState}
 use Rattle.j1_workbench.specs.Files.{HoldsFile}
 
@@ -37,7 +37,6 @@ abbrev pub IsRefusedText : List ℕ → Status → List ℕ → Type 0
 IsRefusedText text TooLarge name = 65536 < length text
 IsRefusedText text (SourceRefused refusal) name = IsShort text × (program_of_text text ≡ Refused refusal.token refusal.cause)
 IsRefusedText text (NotCertified id cause) name = IsUncertified text id.0 cause name
-IsRefusedText text NotYet name = IsShort text × (program_of_text text ≡ NotBuilt)
 IsRefusedText text status name = ⊥
 
 -- why a command that works on this source ended before it began with its program

@@ -25,7 +25,6 @@ fn read_text(alloc: Global, text: &[u8]) -> Result<Program, Answer>
     match read_program(alloc, text) {
         Ok(program) => Ok(program),
         Err(SourceError::Refused(refusal)) => Err(answered(Status::SourceRefused(refusal))),
-        Err(SourceError::NotYet) => Err(answered(Status::NotYet)),
         Err(SourceError::OutOfMemory) => Err(answered(Status::OutOfMemory)),
     }
 }

@@ -29,7 +29,6 @@ pub fn certified_text(alloc: Global, text: &[u8]) -> Result<(Program, Certificat
         Err(SourceError::Refused(refusal)) => {
             return Err(answered(Status::SourceRefused(refusal)));
         }
-        Err(SourceError::NotYet) => return Err(answered(Status::NotYet)),
         Err(SourceError::OutOfMemory) => return Err(answered(Status::OutOfMemory)),
     };
     match certify(alloc, &program) {

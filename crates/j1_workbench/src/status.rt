@@ -44,7 +44,7 @@ pub enum Status {
     Underflow,
     /// A word found other return entries than it needs, or a body ended with entries left; from an evaluation alone.
     Unbalanced,
-    /// The command, or the source text, is not built yet.
+    /// The command is not built yet.
     NotYet,
     /// The program has no step bound: the definition of the first item without one, and why.
     BoundRefused(DefId, BoundCause),

@@ -13,11 +13,13 @@ use Rattle.forth_reader.specs.Splitting.{NextIsComputed, NameIsComputed}
 use Rattle.dictionary_core.specs.Pairs.{pair, newest_value}
 use Rattle.control_flow.specs.declared.refusal.SourceCause.TheVariants as cause
 use Rattle.control_flow.specs.declared.nest.Ending.TheVariants as ending
-use Rattle.control_flow.specs.ParseResult.{ParserState, ParseResult, Fine, Refused, NotBuilt, ◌>>=◌}
+use Rattle.control_flow.specs.ParseResult.{ParserState, ParseResult, Fine, Refused, ◌>>=◌}
 use Rattle.control_flow.specs.Sense.{number_sense, sense_in, is_create}
 use Rattle.control_flow.specs.ReadTokens.{base_at, ReadToken, token_at, Named, spelled_at}
 use Rattle.control_flow.specs.Items.{Many, alone, then_items, items_by, items_at}
-use Rattle.control_flow.specs.SourceText.{Source, definable, definition_by, definition_named, defined_by, with_definition, program_with, main_of, first_host, outside_of, outside_at}
+use Rattle.control_flow.specs.SourceText.{Source, before_by, defining_at, definition_by, definition_named, ended_by, with_definition, program_with, main_of, first_host, outside_of, outside_at}
+use Rattle.control_flow.specs.OutsideSense.{outside_sense_by, outside_sense_in}
+use Rattle.control_flow.specs.OutsideWords.{definable}
 use Rattle.control_flow.specs.SourceText.{source_by, source_at, beginning, source_start, program_of_text}
 use Rattle.made_sources.specs.MadeSource.{next_number, operation, definition, definitions, calls, made_source}
 use Rattle.made_sources.specs.MadeProgram.{number_at, operation_word, number_body, made_name, names_to, bodies_to, calls_and_print, made_program}
@@ -64,8 +66,11 @@ line_is : (place v : ℕ) (more : List ℕ) → definition place v ++ more ≡ 5
 line_is place v more = simp append_assoc
 
 -- behind a `:`
-colon_is : (at : ParserState) (more : List ℕ) → next_from at.count at.rest ≡ next_from at.count (58 ∷ 32 ∷ more) → outside_at at ≡ Fine (record { begins = true; at = behind at (32 ∷ more) })
-colon_is at more same = ap (outside_of at) same
+colon_is : (at : ParserState) (more : List ℕ) → next_from at.count at.rest ≡ next_from at.count (58 ∷ 32 ∷ more) → newest_value at.entries (58 ∷ []) ≡ None → outside_at at ≡ Fine (record { sense = Some (outside_sense_by 10 (58 ∷ []) (word_named (58 ∷ []))); at = behind at (32 ∷ more) })
+colon_is at more same none = ap (outside_of at) same ∙ ap (λ sense. Fine (record { sense = Some sense; at = behind at (32 ∷ more) })) begins
+  where
+    begins : outside_sense_in at.entries (base_at at) (58 ∷ []) ≡ outside_sense_by 10 (58 ∷ []) (word_named (58 ∷ []))
+    begins = rw (none, outside_sense_in) refl
 
 definable_is : (named : Named) → word_named named.name ≡ None → length named.at.entries < 512 → definable named ≡ Fine named
 definable_is named none few = rw (none, lt-ltb (length named.at.entries) 512 few, definable) refl
@@ -73,18 +78,18 @@ definable_is named none few = rw (none, lt-ltb (length named.at.entries) 512 few
 -- a definition whose items are read, and whose first token is no CREATE
 named_definition : (n : ℕ) (source : Source) (named : ParserState) (name : List ℕ) (first : ReadToken) (many : Many) →
     token_at named ≡ Fine first → is_create first.sense ≡ false → items_at (suc n) named ≡ Fine many →
-    definition_named n source (record { name = name; at = named }) ≡ defined_by source name many.nodes many.at many.ending
+    definition_named n source (record { name = name; at = named }) ≡ ended_by source name many.nodes many.at many.ending
 unfolding items_at
 named_definition n source named name first many read other items =
     let by_first : (token_at named >>= λ seen. items_by (items_at n) n seen.at seen.sense) ≡ items_by (items_at n) n first.at first.sense = ap (λ r. r >>= λ seen. items_by (items_at n) n seen.at seen.sense) read in
     let same : items_by (items_at n) n first.at first.sense ≡ Fine many = sym by_first ∙ items in
     ap (λ r. r >>= definition_by n source name) read
-    ∙ ap (λ t. elim t as (λ t. ParseResult Source) [ true ↦ NotBuilt | false ↦ items_by (items_at n) n first.at first.sense >>= λ many. defined_by source name many.nodes many.at many.ending ]) other
-    ∙ ap (λ r. r >>= λ many. defined_by source name many.nodes many.at many.ending) same
+    ∙ ap (λ t. elim t as (λ t. ParseResult Source) [ true ↦ defining_at n source name first.at | false ↦ items_by (items_at n) n first.at first.sense >>= λ many. ended_by source name many.nodes many.at many.ending ]) other
+    ∙ ap (λ r. r >>= λ many. ended_by source name many.nodes many.at many.ending) same
 
 -- the source behind it
 defined : (n : ℕ) (source : Source) (at named after : ParserState) (name : List ℕ) (nodes : Nodes) (first : ReadToken) →
-    outside_at source.at ≡ Fine (record { begins = true; at = at }) →
+    outside_at source.at ≡ Fine (record { sense = Some (outside_sense_by 10 (58 ∷ []) (word_named (58 ∷ []))); at = at }) →
     spelled_at at ≡ Fine (record { name = name; at = named }) →
     definable (record { name = name; at = named }) ≡ Fine (record { name = name; at = named }) →
     token_at named ≡ Fine first →
@@ -128,7 +133,7 @@ abbrev state_with : ℕ → ℕ → ℕ → List ℕ → ParserState
 state_with seed place definitions rest = record (beginning rest) { count = count_to place; weight = weight_to seed place; entries = entries_to place; definitions = definitions }
 
 abbrev source_with : ℕ → ℕ → ℕ → List ℕ → Source
-source_with seed place definitions rest = record (source_start rest) { at = state_with seed place definitions rest; names = names_to place; bodies = bodies_to seed place }
+source_with seed place definitions rest = record (source_start rest) { at = state_with seed place definitions rest; names = names_to place; bodies = bodies_to seed place; before = elim place [ zero ↦ (source_start []).before | suc earlier ↦ before_by (source_start []).before false ] }
 
 abbrev source_to : ℕ → ℕ → List ℕ → Source
 source_to seed place rest = source_with seed place place rest
@@ -170,7 +175,7 @@ module _ (next : NextIsComputed) (names : NameIsComputed) where
       let is : sense_in named.entries (base_at named) (decimal v) ≡ number_sense (Value v) =
       number_is_sense named (decimal v) v (number_not_found v place (below_range seed place) (omega arith)) (number_is_no_word v (below_range seed place)) refl (number_is v (below_range seed place)) in
       defined (suc (suc (suc n))) (source_to seed place rest) at named _ (made_name (place + 1)) (number_body v) (record { sense = sense_in named.entries (base_at named) (decimal v); at = first })
-      (colon_is (state_with seed place place rest) (made_name (place + 1) ++ number_text v more) (same ∙ ap (next_from (count_to place)) (line_is (place + 1) v more)))
+      (colon_is (state_with seed place place rest) (made_name (place + 1) ++ number_text v more) (same ∙ ap (next_from (count_to place)) (line_is (place + 1) v more)) (unknown (state_with seed place place rest) (58 ∷ []) place refl (omega arith) refl))
       (name_is next names at (made_name (place + 1)) (number_text v more) refl (name_token (place + 1) (omega arith)) refl)
       (definable_is (record { name = made_name (place + 1); at = named }) (name_is_no_word (place + 1) (omega arith)) (omega (arith, few)))
       (token_is next names named (decimal v) (32 ∷ (operation (v % 4) ++ (32 ∷ 59 ∷ 10 ∷ more))) refl (number_token v (below_range seed place)) refl)
@@ -251,8 +256,8 @@ module _ (next : NextIsComputed) (names : NameIsComputed) where
       source_at (suc (suc (suc (suc (more_fuel count k))))) (source_to seed count rest) ≡ Fine (made_program seed count)
   unfolding source_at
   main_read seed count k rest small same =
-      let before = state_with seed count count rest in
-      let at = behind before (codes " MAIN 1" ++ (calls count 1 ++ print_text)) in
+      let front = state_with seed count count rest in
+      let at = behind front (codes " MAIN 1" ++ (calls count 1 ++ print_text)) in
       let named = behind at (codes " 1" ++ (calls count 1 ++ print_text)) in
       let one = behind named (calls count 1 ++ print_text) in
       let b = record one { weight = one.weight + 2 } in
@@ -265,7 +270,7 @@ module _ (next : NextIsComputed) (names : NameIsComputed) where
       let is : sense_in named.entries (base_at named) (codes "1") ≡ number_sense (Value 1) = number_is_sense named (codes "1") 1 (unknown named (codes "1") count refl small refl) refl refl refl in
       let read = token_is next names named (codes "1") (calls count 1 ++ print_text) refl (is_token (codes "1") (omega arith) (omega arith) refl refl refl) (calls_follow count 1) in
       defined (suc (suc (suc (more_fuel count k)))) (source_to seed count rest) at named after (codes "MAIN") nodes (record { sense = sense_in named.entries (base_at named) (codes "1"); at = one })
-      (colon_is before (codes "MAIN 1" ++ (calls count 1 ++ print_text)) same)
+      (colon_is front (codes "MAIN 1" ++ (calls count 1 ++ print_text)) same (unknown front (58 ∷ []) count refl small refl))
       (name_is next names at (codes "MAIN") (codes " 1" ++ (calls count 1 ++ print_text)) refl (is_token (codes "MAIN") (omega arith) (omega arith) refl refl refl) refl)
       (definable_is (record { name = codes "MAIN"; at = named }) refl (omega (arith, few)))
       read

@@ -147,10 +147,10 @@ const REFUSALS: &str = r#"
 : MAIN [                                 |  |  | 3 source token 4: OpenDefinition
 : MAIN [ 1                               |  |  | 3 source token 5: OpenDefinition
 : MAIN [ ] 1                             |  |  | 3 source token 6: OpenDefinition
-: MAIN CREATE ] ;                        |  |  | 15 not yet
-: MAIN ( a ) CREATE ;                    |  |  | 15 not yet
-: MAIN ; [ 1 ]                           |  |  | 15 not yet
-: MAIN ; LITERAL                         |  |  | 15 not yet
+: MAIN CREATE ] ;                        |  |  | 3 source token 4: NotInDefinition
+: MAIN ( a ) CREATE ;                    |  |  | 3 source token 6: NoMain
+: MAIN ; [ 1 ]                           |  |  | 3 source token 4: OnlyInDefinition
+: MAIN ; LITERAL                         |  |  | 3 source token 4: OnlyInDefinition
 "#;
 
 #[test]

@@ -54,10 +54,10 @@ const SOURCES: &str = r#"
 : M234567890123456789012345678901 ;       |    |         | 3 source token 4: NoMain
 : M2345678901234567890123456789012 ;      |    |         | 3 source token 2: NameTooLong
 : MAIN ; : MAIN ;
-: MAIN ; ( 1 ) 65536                      |    |         | 15 not yet
-: MAIN ; ;                                |    |         | 15 not yet
-X : MAIN ;                                |    |         | 15 not yet
-65536 : MAIN ;                            |    |         | 15 not yet
+: MAIN ; ( 1 ) 65536                      |    |         | 3 source token 5: NumberRange
+: MAIN ; ;                                |    |         | 3 source token 4: OnlyInDefinition
+X : MAIN ;                                |    |         | 3 source token 1: UnknownWord
+65536 : MAIN ;                            |    |         | 3 source token 1: NumberRange
 A2345678901234567890123456789012 : MAIN ; |    |         | 3 source token 1: NameTooLong
 : MAIN 0 IF THEN ;
 : MAIN 1 >R ;                             |    |         | 4 MAIN: not certified: Shape
@@ -67,7 +67,7 @@ A2345678901234567890123456789012 : MAIN ; |    |         | 3 source token 1: Nam
 : MAIN XYZZY EXIT ;                       |    |         | 3 source token 3: UnknownWord
 : MAIN . 65536 ;                          |    |         | 3 source token 4: NumberRange
 : MAIN 65536 . ;                          |    |         | 3 source token 3: NumberRange
-: MAIN CREATE ( ;                         |    |         | 15 not yet
+: MAIN CREATE ( ;                         |    |         | 3 source token 4: OpenComment
 : MAIN ( ;                                |    |         | 3 source token 3: OpenComment
 : MAIN RECURSE                            |    |         | 3 source token 4: OpenDefinition
 : MAIN DUP                                |    |         | 3 source token 4: OpenDefinition

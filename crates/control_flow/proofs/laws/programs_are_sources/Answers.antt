@@ -1,4 +1,4 @@
-use Rattle.control_flow.proofs.SourceFacts.{programs_are_sources}
+use Rattle.control_flow.proofs.TextFacts.{programs_are_sources}
 use Rattle.control_flow.proofs.laws.programs_are_sources.Goals as goal
 
 pub returns : goal.returns

@@ -1,4 +1,4 @@
-use Rattle.control_flow.proofs.SourceFacts.{all_wider}
+use Rattle.control_flow.proofs.BodyFacts.{all_wider}
 use Rattle.control_flow.proofs.laws.tests_widen.Goals as goal
 
 pub returns : goal.returns

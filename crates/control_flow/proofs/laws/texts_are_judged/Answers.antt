@@ -1,4 +1,4 @@
-use Rattle.control_flow.proofs.SourceFacts.{judged}
+use Rattle.control_flow.proofs.TextFacts.{judged}
 use Rattle.control_flow.proofs.laws.texts_are_judged.Goals as goal
 
 pub returns : goal.returns

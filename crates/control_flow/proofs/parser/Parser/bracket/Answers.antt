@@ -1,7 +1,8 @@
-use Rattle.std.proofs.Common.{arith, sym, subst}
+use Rattle.std.proofs.Common.{arith}
+use Rattle.control_flow.specs.declared.refusal.SourceCause.TheVariants as cause
 use Rattle.control_flow.specs.ParseResult.{ParserState}
-use Rattle.control_flow.specs.Answers.{parser_state, AnswersAs}
-use Rattle.control_flow.proofs.BracketSteps.{refused_host, with_sense, refused_act, behind_act}
+use Rattle.control_flow.specs.Answers.{parser_state}
+use Rattle.control_flow.proofs.BracketSteps.{quoted_fails, refused_host, with_sense, refused_by, refused_act, behind_act}
 use Rattle.control_flow.proofs.parser.Parser.bracket.Goals as goal
 
 pub returns-in-Err-clause-gives : goal.returns-in-Err-clause-gives
@@ -24,14 +25,22 @@ returns-in-Err-act-clause-gives c n h =
 pub returns-in-Closes-clause-gives : goal.returns-in-Closes-clause-gives
 returns-in-Closes-clause-gives c n h = with_sense _ (parser_state c.tokens.self) (c.tokens.invariant.same n h) c.in-Ok.sense (parser_state c.host_token.new.self) c.in-Ok.ensures.gives _ c.in-Closes.is
 
+pub returns-in-Ends-clause-gives : goal.returns-in-Ends-clause-gives
+returns-in-Ends-clause-gives c n h =
+    rw c.refuse.ensures (with_sense _ (parser_state c.tokens.self) (c.tokens.invariant.same n h) c.in-Ok.sense (parser_state c.host_token.new.self) c.in-Ok.ensures.gives _ c.in-Ends.is)
+
+pub returns-in-Does-clause-gives : goal.returns-in-Does-clause-gives
+returns-in-Does-clause-gives c n h =
+    rw c.refuse-in-Does.ensures (with_sense _ (parser_state c.tokens.self) (c.tokens.invariant.same n h) c.in-Ok.sense (parser_state c.host_token.new.self) c.in-Ok.ensures.gives _ c.in-Does.is)
+
 pub returns-in-Quoted-clause-gives : goal.returns-in-Quoted-clause-gives
 returns-in-Quoted-clause-gives c n h =
-    subst (λ o. AnswersAs {A = Unit {0}} {B = ParserState} (λ _. parser_state c.quoted.new.self) c.quoted.result o)
-    (sym (with_sense _ (parser_state c.tokens.self) (c.tokens.invariant.same n h) c.in-Ok.sense (parser_state c.host_token.new.self) c.in-Ok.ensures.gives _ c.in-Quoted.is)) c.quoted.ensures.gives
+    refused_by _ (parser_state c.tokens.self) (c.tokens.invariant.same n h) c.in-Ok.sense (parser_state c.host_token.new.self) c.in-Ok.ensures.gives _ c.in-Quoted.is c.quoted.result
+    (quoted_fails ParserState c.quoted.result cause.NotInDefinition (parser_state c.host_token.new.self) c.quoted.ensures)
 
 pub returns-in-OutOfRange-clause-gives : goal.returns-in-OutOfRange-clause-gives
 returns-in-OutOfRange-clause-gives c n h =
-    rw c.refuse.ensures (with_sense _ (parser_state c.tokens.self) (c.tokens.invariant.same n h) c.in-Ok.sense (parser_state c.host_token.new.self) c.in-Ok.ensures.gives _ c.in-OutOfRange.is)
+    rw c.refuse-in-OutOfRange.ensures (with_sense _ (parser_state c.tokens.self) (c.tokens.invariant.same n h) c.in-Ok.sense (parser_state c.host_token.new.self) c.in-Ok.ensures.gives _ c.in-OutOfRange.is)
 
 pub returns-in-Unknown-clause-gives : goal.returns-in-Unknown-clause-gives
 returns-in-Unknown-clause-gives c n h =

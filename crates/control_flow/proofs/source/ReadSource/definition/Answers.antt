@@ -16,8 +16,19 @@ define-requires-clause-counted c =
     let t = good_is (TokenRead at) (token_at at) seen c.in_ok-first.ensures.gives (token_read at) in
     let r = good_is (ItemsRead at) (items_by (items_at n) n seen.at seen.sense) _ (c.in_ok-body.ensures.gives n (omega (arith, t.passed.left))) (items_from_read c.host_words_keep.ensures.words n at seen t (omega (arith, t.passed.left))) in
     let d = r.definitions ∙ c.name.ensures.kept.1 in
+    let same = ap length (r.entries ∙ ap (λ (d : DictionaryState Entry). d.pairs) c.name.ensures.kept.0) in
     record {
       names = c.requires.counted.names ∙ sym d;
       bodies = c.requires.counted.bodies ∙ sym d;
-      entries = ap length (r.entries ∙ ap (λ (d : DictionaryState Entry). d.pairs) c.name.ensures.kept.0) ∙ c.requires.counted.entries ∙ sym d;
+      entries = omega (arith, d, same, c.requires.counted.entries);
+      defining = omega (arith, same, c.requires.counted.defining);
     }
+
+pub define-requires-clause-room : goal.define-requires-clause-room
+define-requires-clause-room c =
+    let n = suc (length c.name.new.self.reader.rest) in
+    let at = parser_state c.name.new.self in
+    let seen : ReadToken = record { sense = c.in_ok-first.first; at = parser_state c.token.new.self } in
+    let t = good_is (TokenRead at) (token_at at) seen c.in_ok-first.ensures.gives (token_read at) in
+    let r = good_is (ItemsRead at) (items_by (items_at n) n seen.at seen.sense) _ (c.in_ok-body.ensures.gives n (omega (arith, t.passed.left))) (items_from_read c.host_words_keep.ensures.words n at seen t (omega (arith, t.passed.left))) in
+    omega (arith, ap length r.entries, c.in_ok-name.ensures.room)

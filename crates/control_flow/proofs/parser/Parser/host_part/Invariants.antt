@@ -1,0 +1,15 @@
+use Rattle.std.proofs.Common.{◌≡◌, ℕ, ◌<◌, ◌≤◌, length}
+use Rattle.control_flow.specs.HostParts.{host_part_at}
+use Rattle.control_flow.specs.Answers.{parser_state, IsReadyParser}
+use Rattle.control_flow.proofs.HostPartSteps.{InHostPart}
+use Rattle.control_flow.proofs.parser.Parser.host_part.Given as goal
+
+abbrev pub invariant-tokens : goal.invariant-tokens
+invariant-tokens l = record {
+  same : (n : ℕ) → length l.fn.self.reader.rest < n → InHostPart (host_part_at n (parser_state l.fn.self)) l.items.items (parser_state l.self);
+  room : length l.self.reader.rest ≤ length l.fn.self.reader.rest;
+  ready : IsReadyParser l.self;
+}
+
+abbrev pub decreases-tokens : goal.decreases-tokens
+decreases-tokens l = length l.self.reader.rest

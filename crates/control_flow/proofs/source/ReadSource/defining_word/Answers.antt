@@ -1,0 +1,49 @@
+use Rattle.std.proofs.Common.{arith, ◌∙◌, sym, true}
+use Rattle.control_flow.specs.Answers.{parser_state}
+use Rattle.control_flow.proofs.SourceFacts.{part_keeps, body_keeps}
+use Rattle.control_flow.proofs.source.ReadSource.defining_word.Goals as goal
+
+pub define_defining-requires-clause-counted : goal.define_defining-requires-clause-counted
+define_defining-requires-clause-counted c =
+    let p = part_keeps c.host_words_keep.ensures.words (parser_state c.args.self.now.parser) _ c.in_ok-part.ensures.gives in
+    record {
+      names = c.requires.counted.names ∙ sym p.0;
+      bodies = c.requires.counted.bodies ∙ sym p.0;
+      entries = omega (arith, p.0, p.1, c.requires.counted.entries);
+      defining = omega (arith, p.1, c.requires.counted.defining);
+    }
+
+pub define_defining-requires-clause-room : goal.define_defining-requires-clause-room
+define_defining-requires-clause-room c =
+    let p = part_keeps c.host_words_keep.ensures.words (parser_state c.args.self.now.parser) _ c.in_ok-part.ensures.gives in
+    omega (arith, p.1, c.requires.room)
+
+pub define_defining-requires-in-Semicolon-clause-counted : goal.define_defining-requires-in-Semicolon-clause-counted
+define_defining-requires-in-Semicolon-clause-counted c =
+    let p = part_keeps c.host_words_keep.ensures.words (parser_state c.args.self.now.parser) _ c.in_ok-part.ensures.gives in
+    let b = body_keeps c.host_words_keep.ensures.words (record (parser_state c.host_part.new.self) { does = true }) _ c.in_ok-body.ensures.gives in
+    record {
+      names = c.requires.counted.names ∙ sym (b.0 ∙ p.0);
+      bodies = c.requires.counted.bodies ∙ sym (b.0 ∙ p.0);
+      entries = omega (arith, b.0, p.0, b.1, p.1, c.requires.counted.entries);
+      defining = omega (arith, b.1, p.1, c.requires.counted.defining);
+    }
+
+pub define_defining-requires-in-Semicolon-clause-room : goal.define_defining-requires-in-Semicolon-clause-room
+define_defining-requires-in-Semicolon-clause-room c =
+    let p = part_keeps c.host_words_keep.ensures.words (parser_state c.args.self.now.parser) _ c.in_ok-part.ensures.gives in
+    let b = body_keeps c.host_words_keep.ensures.words (record (parser_state c.host_part.new.self) { does = true }) _ c.in_ok-body.ensures.gives in
+    omega (arith, b.1, p.1, c.requires.room)
+
+pub keep-requires-clause-due : goal.keep-requires-clause-due
+keep-requires-clause-due c =
+    let p = part_keeps c.host_words_keep.ensures.words (parser_state c.args.self.now.parser) _ c.in_ok-part.ensures.gives in
+    let b = body_keeps c.host_words_keep.ensures.words (record (parser_state c.host_part.new.self) { does = true }) _ c.in_ok-body.ensures.gives in
+    let d = c.in_ok-define_defining-in-Semicolon.ensures in
+    omega (arith, d.kept, d.longer, b.0, p.0, b.1, p.1, c.requires.counted.entries)
+
+pub keep-requires-clause-few : goal.keep-requires-clause-few
+keep-requires-clause-few c =
+    let p = part_keeps c.host_words_keep.ensures.words (parser_state c.args.self.now.parser) _ c.in_ok-part.ensures.gives in
+    let b = body_keeps c.host_words_keep.ensures.words (record (parser_state c.host_part.new.self) { does = true }) _ c.in_ok-body.ensures.gives in
+    omega (arith, c.in_ok-define_defining-in-Semicolon.ensures.longer, b.1, p.1, c.requires.room)
