@@ -1,5 +1,5 @@
 -- What a drive from the start leaves, as the status tells it.
-use Rattle.std.proofs.Common.{◌≡◌, ◌⊎◌, inl, inr, ℕ, zero, suc, ◌+◌, ◌<◌, ◌≤◌, List, [], ◌++◌, length, Bool, refl, sym, ap, ◌∙◌, subst, arith}
+use Rattle.std.proofs.Common.{◌≡◌, ◌⊎◌, inl, inr, ℕ, zero, suc, ◌+◌, ◌<◌, ◌≤◌, List, [], ◌++◌, Bool, refl, sym, ap, ◌∙◌, subst, arith}
 use Rattle.std.specs.Prelude.{Option, Some, None, option_map, Result, Ok, Err, IfSome, IfOk, OnOk}
 use Rattle.std.specs.Io.KnownBytes.{Appends}
 use Rattle.std.proofs.lemmas.List.{append-nil}
@@ -11,15 +11,15 @@ use Rattle.j1_simulator.specs.declared.ends.Finish.TheVariants.{Ended, StepsUsed
 use Rattle.j1_simulator.specs.declared.ends.DriveError.{DriveError}
 use Rattle.j1_simulator.specs.declared.ends.DriveError.TheVariants.{Read, Write}
 use Rattle.j1_simulator.specs.MachineState.{MachineState, WantsAByte, IsTaking, machine_start}
-use Rattle.j1_simulator.specs.Step.{Stop, By, step}
+use Rattle.j1_simulator.specs.Step.{By, step}
 use Rattle.outside_io.specs.Causes.{Rose}
 use Rattle.j1_simulator.specs.Run.{round_run}
 use Rattle.j1_simulator.specs.RoundMachine.{round_storage}
-use Rattle.j1_simulator.specs.Drive.{HoldsPrints, StandsAt, IsAt, driven, going_on, left_of, IsDriven, IsBrokenOff, MadeAtMost, in_vain as asked_in_vain, end_told}
+use Rattle.j1_simulator.specs.Drive.{HoldsPrints, StandsAt, IsAt, going_on, IsDriven, IsBrokenOff, MadeAtMost, in_vain as asked_in_vain, end_told}
 use Rattle.j1_simulator.specs.Laws.{OnlyGrows}
 use Rattle.j1_workbench.specs.declared.status.Status.{Status}
-use Rattle.j1_workbench.specs.declared.status.Status.TheVariants.{Done, BadWords, Missing, SourceRefused, NotCertified, StepsUsed as OutOfSteps, InputEnded}
-use Rattle.j1_workbench.specs.declared.status.Status.TheVariants.{Outside, Halted, ReadFault, WriteFault, OutOfMemory, TooLarge, NotYet, BoundRefused}
+use Rattle.j1_workbench.specs.declared.status.Status.TheVariants.{Done, StepsUsed as OutOfSteps, InputEnded}
+use Rattle.j1_workbench.specs.declared.status.Status.TheVariants.{Outside, Halted, ReadFault, WriteFault}
 use Rattle.j1_workbench.specs.Statuses.{status_of, halted_status}
 use Rattle.j1_workbench.specs.Surroundings.{Stream}
 use Rattle.j1_workbench.specs.Driving.{IsRunAnswer, RanAs, DriveLeaves, in_vain, Gave, Drives, status_after}

@@ -4,7 +4,7 @@ use Rattle.std.specs.Prelude.{Option, Some, None}
 use Rattle.outside_io.specs.Causes.{Rose}
 use Rattle.outside_io.specs.Files.{Files, Lacks}
 use Rattle.j1_table.specs.Image.{Content}
-use Rattle.image_file.specs.File.{IsImage, IsFile, image_bytes, FirstBad}
+use Rattle.image_file.specs.File.{IsFile, image_bytes, FirstBad}
 use Rattle.image_file.specs.Laws.{FilesAreImages, BadIsNoFile, OneFirstBad}
 use Rattle.j1_assembler.specs.declared.refusal.AsmCause.{AsmCause}
 use Rattle.j1_assembler.specs.Assembly.{Assembled, Refused, assembled}
@@ -13,7 +13,7 @@ use Rattle.j1_assembler.specs.FirstBad.{IsFirstBad, RefusesFirstBad}
 use Rattle.j1_workbench.specs.declared.status.Status.{Status}
 use Rattle.j1_workbench.specs.declared.status.Status.TheVariants.{Done, Missing, ReadFault, WriteFault, OutOfMemory, TooLarge, BadImage, BadListing}
 use Rattle.j1_workbench.specs.Surroundings.{Stream, FolderState, Surroundings}
-use Rattle.j1_workbench.specs.Files.{HoldsFile, IsRead, IsUnread, IsRefusedFile, IsPut}
+use Rattle.j1_workbench.specs.Files.{HoldsFile, IsUnread, IsRefusedFile, IsPut}
 use Rattle.j1_workbench.specs.Driving.{IsRunAnswer, Drives}
 use Rattle.j1_workbench.specs.Certifying.{Writes}
 use Rattle.j1_workbench.specs.Images.{IsBadImage, IsImageFile}

@@ -1,5 +1,5 @@
 -- What `net` reads, compiles and writes.
-use Rattle.std.proofs.Common.{◌≡◌, ◌⊎◌, inl, inr, ℕ, suc, ◌+◌, ◌≤◌, ◌<◌, Bool, true, false, List, [], ◌∷◌, ◌++◌, length, map, Option, Some, None, refl, sym, ap, ◌∙◌, subst, arith, append_assoc}
+use Rattle.std.proofs.Common.{◌≡◌, inl, inr, ℕ, suc, ◌+◌, ◌≤◌, Bool, true, false, List, [], ◌∷◌, ◌++◌, length, map, Option, Some, None, refl, sym, ap, ◌∙◌, subst, arith, append_assoc}
 use Rattle.std.proofs.Common.{◌-◌, String, get_or, take, drop, take_all, string_bytes}
 use Rattle.std.specs.Prelude.{◌&&◌, ◌==◌, not, nat_lt}
 use Rattle.std.specs.List.{list_all}
@@ -10,15 +10,14 @@ use Rattle.j1_table.specs.Image.{Content}
 use Rattle.net_file.specs.Net.{NetPlan, is_file_name, IsNetText}
 use Rattle.net_file.specs.FirstBad.{IsFirstBadLine}
 use Rattle.j1_workbench.specs.declared.status.Status.{Status}
-use Rattle.j1_workbench.specs.declared.status.Status.TheVariants.{Done, Missing, ReadFault, WriteFault, OutOfMemory, TooLarge, BadNet}
+use Rattle.j1_workbench.specs.declared.status.Status.TheVariants.{Missing, ReadFault, OutOfMemory, BadNet}
 use Rattle.j1_workbench.specs.declared.answer.Answer.{Answer}
 use Rattle.j1_workbench.specs.Notes.{named}
-use Rattle.j1_workbench.specs.Surroundings.{Stream, FolderState, Surroundings, IsOnlyRead}
+use Rattle.j1_workbench.specs.Surroundings.{FolderState, Surroundings, IsOnlyRead}
 use Rattle.j1_workbench.specs.Files.{HoldsFile, IsRead, IsUnread, IsRefusedFile}
 use Rattle.j1_workbench.specs.Sources.{IsRefusedSource}
 use Rattle.j1_workbench.specs.Compiling.{CompilesSource}
-use Rattle.j1_workbench.specs.Certifying.{Writes}
-use Rattle.j1_workbench.specs.Networking.{IsBadNet, IsNetFile, CompileEach, core_named, RefusesCore, RefusesCores, net_status, net_output, WritesThen, RefusesNet, Nets}
+use Rattle.j1_workbench.specs.Networking.{IsBadNet, IsNetFile, CompileEach, core_named, RefusesCores, net_status, net_output, WritesThen, ReadsOnce, Nets}
 
 -- ---- the net file
 
@@ -80,15 +79,6 @@ kept_after None mid new first second = tt
 kept_after (Some files) None new first second = absurd first
 kept_after (Some files) (Some middle) None first second = absurd second
 kept_after (Some files) (Some middle) (Some after) first second = λ other. second other ∙ first other
-
-kept_here : (files : Option Files) → KeepsFiles files files
-kept_here None = tt
-kept_here (Some files) = λ other. refl
-
-pub read_none : (n : ℕ) (before after : FolderState) → after ≡ before → IsOnlyRead n before after
-read_none n before after same =
-    let here : IsOnlyRead n before before = record { files = kept_here before.files; calls = omega arith; read_faults = omega arith; write_faults = refl; absences = omega arith } in
-    subst (IsOnlyRead n before) (sym same) here
 
 pub read_then : (n m k : ℕ) (before middle after : FolderState) → n + m ≤ k → IsOnlyRead n before middle → IsOnlyRead m middle after → IsOnlyRead k before after
 read_then n m k before middle after few first second = record {
@@ -160,24 +150,30 @@ pub nets_unread : (file : List ℕ) (before after : Surroundings) (status : Stat
     IsOnlyRead 1 before.folder after.folder → IsRefusedFile 65536 IsBadNet file before.folder after.folder status → after.console ≡ before.console → after.out ≡ before.out → Nets file before after answer.status (named answer.name)
 unfolding Nets
 nets_unread file before after status answer is read refused console out =
-    subst (λ a. Nets file before after a.status (named a.name)) (sym is) (read_then 1 0 17 before.folder after.folder after.folder (omega arith) read (read_none 0 after.folder after.folder refl), console, inl (inl (refused, refl), out))
+    subst (λ a. Nets file before after a.status (named a.name)) (sym is) (console, inl (inl (read, refused, refl), out))
 
 -- the folder was read for the net file, and then for so many cores
-all_read : (file : List ℕ) (before middle after : FolderState) (net : NetPlan) (sources : List (List ℕ)) (cores : ℕ) →
-    IsOnlyRead 1 before middle → IsNetFile file before net → sources ≡ net.cores → cores ≡ length sources → IsOnlyRead cores middle after → IsOnlyRead 17 before after
-all_read file before middle after net sources cores first is same count second =
-    let few : length net.cores ≤ 16 = is.is_net.sound.few_cores in
+all_read : (before middle after : FolderState) (net : NetPlan) (sources : List (List ℕ)) (cores : ℕ) →
+    IsOnlyRead 1 before middle → sources ≡ net.cores → cores ≡ length sources → IsOnlyRead cores middle after → ReadsOnce net before after
+all_read before middle after net sources cores first same count second =
     let many : length sources ≡ length net.cores = ap length same in
-    read_then 1 cores 17 before middle after (omega arith) first second
+    read_then 1 cores (1 + length net.cores) before middle after (omega arith) first second
 
 pub nets_refused : (file : List ℕ) (before after : Surroundings) (middle : FolderState) (net : NetPlan) (sources : List (List ℕ)) (cores : ℕ) (status : Status) (name : List ℕ) →
     IsOnlyRead 1 before.folder middle → IsNetFile file before.folder net → sources ≡ net.cores → cores ≡ length sources → IsOnlyRead cores middle after.folder →
     RefusesCores sources middle after.folder status name → after.console ≡ before.console → after.out ≡ before.out → Nets file before after status name
 unfolding Nets
 nets_refused file before after middle net sources cores status name first is same count second refuses console out = (
-  all_read file before.folder middle after.folder net sources cores first is same count second,
   console,
-  inl (inr (net, is, cores_kept 1 net.cores before.folder middle after.folder status name first (subst (λ s. RefusesCores s middle after.folder status name) same refuses)), out),
+  inl (
+    inr (
+      net,
+      is,
+      all_read before.folder middle after.folder net sources cores first same count second,
+      cores_kept 1 net.cores before.folder middle after.folder status name first (subst (λ s. RefusesCores s middle after.folder status name) same refuses),
+    ),
+    out,
+  ),
 )
 
 pub nets_without_memory : (file : List ℕ) (before after : Surroundings) (middle : FolderState) (net : NetPlan) (sources : List (List ℕ)) (cores : ℕ) (answer : Answer) →
@@ -185,7 +181,9 @@ pub nets_without_memory : (file : List ℕ) (before after : Surroundings) (middl
     after.console ≡ before.console → after.out ≡ before.out → Nets file before after answer.status (named answer.name)
 unfolding Nets
 nets_without_memory file before after middle net sources cores answer is first found same count second console out =
-    subst (λ a. Nets file before after a.status (named a.name)) (sym is) (all_read file before.folder middle after.folder net sources cores first found same count second, console, inl (inl (inl tt, refl), out))
+    let several : 2 ≤ length net.cores = found.is_net.sound.several in
+    let read = all_read before.folder middle after.folder net sources cores first same count second in
+    (console, inl (inr (net, found, read, wanting net.cores before.folder after.folder answer (omega arith) is), out))
 
 pub nets_run : (file : List ℕ) (before after : Surroundings) (middle : FolderState) (net : NetPlan) (sources : List (List ℕ)) (images built : List Content) (cores : ℕ) (lines : List ℕ) (ran status : Status) (answer : Answer) →
     answer ≡ record { status = status; name = None } → IsOnlyRead 1 before.folder middle → IsNetFile file before.folder net → sources ≡ net.cores → cores ≡ length sources → IsOnlyRead cores middle after.folder →
@@ -197,7 +195,13 @@ nets_run file before after middle net sources images built cores lines ran statu
     subst (λ r. WritesThen before.out after.out (net_output net images) r status) end (subst (λ l. WritesThen before.out after.out l ran status) told writes) in
     let compiled : CompileEach net.cores before.folder images = each_kept net.cores before.folder middle images first.files (subst (λ s. CompileEach s middle images) same (subst (CompileEach sources middle) (sym equal) each)) in
     subst (λ a. Nets file before after a.status (named a.name)) (sym is) (
-      all_read file before.folder middle after.folder net sources cores first found same count second,
       console,
-      inr (record { net = net; is_in = found; images = images; compiled = compiled; writes = wrote }),
+      inr (record {
+        net = net;
+        is_in = found;
+        reads = all_read before.folder middle after.folder net sources cores first same count second;
+        images = images;
+        compiled = compiled;
+        writes = wrote;
+      }),
     )

@@ -1,10 +1,9 @@
 -- Each net file has its one answer, where nothing outside fails.
-use Rattle.std.proofs.Common.{◌≡◌, ◌⊎◌, inl, inr, ℕ, ◌<◌, ◌≤◌, List, [], ◌∷◌, length, map, refl, sym, ap, ◌∙◌, subst, arith}
+use Rattle.std.proofs.Common.{◌≡◌, ◌⊎◌, inl, inr, ℕ, ◌≤◌, List, [], ◌∷◌, length, map, refl, sym, ap, ◌∙◌, subst, arith}
 use Rattle.std.specs.Prelude.{Option}
 use Rattle.outside_io.specs.Causes.{Rose}
 use Rattle.outside_io.specs.Files.{Files}
 use Rattle.forth_program.specs.Program.{SourceProgram}
-use Rattle.depth_certifier.specs.Certificate.{Cert}
 use Rattle.depth_certifier.specs.Rounds.{OneRefusal}
 use Rattle.j1_table.specs.Image.{Content}
 use Rattle.net_file.specs.Net.{NetPlan, IsNetText}
@@ -14,7 +13,7 @@ use Rattle.net_file.specs.Laws.{TellsNet, RefusesFirstBadLine}
 use Rattle.j1_workbench.specs.declared.status.Status.{Status}
 use Rattle.j1_workbench.specs.declared.status.Status.TheVariants.{OutOfMemory, BadNet}
 use Rattle.j1_workbench.specs.Surroundings.{Stream, FolderState, Surroundings}
-use Rattle.j1_workbench.specs.Sources.{HasCertificate, IsRefusedText, IsRefusedSource}
+use Rattle.j1_workbench.specs.Sources.{HasCertificate}
 use Rattle.j1_workbench.specs.Headline.{image_of}
 use Rattle.j1_workbench.specs.Compiling.{CompilesSource}
 use Rattle.j1_workbench.specs.Networking.{IsBadNet, IsNetFile, CompileEach, RefusesCores, net_status, WritesThen, Nets}
@@ -134,10 +133,10 @@ by_file files text status file = record {
 pub nets_complete : OneRefusal → NetLaws → (file text : List ℕ) (before after : Surroundings) (status : Status) (name : List ℕ) →
     Nets file before after status name → Tells before.folder.files file text → FailsNowhere before after → IsCompleteNet before.folder.files text status
 unfolding Nets
-nets_complete one laws file text before after status name (read, console, inl (inl (refused, none), out)) told calm =
+nets_complete one laws file text before after status name (console, inl (inl (read, refused, none), out)) told calm =
     by_file before.folder.files text status
     (by_refusal 65536 IsBadNet HasNet (nets_apart laws) text status (λ s. ⊥) (refused_file 65536 IsBadNet file text before.folder after.folder status told calm.folder refused))
-nets_complete one laws file text before after status name (read, console, inl (inr (net, is_in, refuses), out)) told calm =
+nets_complete one laws file text before after status name (console, inl (inr (net, is_in, read, refuses), out)) told calm =
     let good = told_net file text before.folder net told is_in in
     record {
       too_large = λ long. absurd (omega (arith, good.0));
@@ -147,7 +146,7 @@ nets_complete one laws file text before after status name (read, console, inl (i
       run = λ other programs short is all.
           cores_certified net.cores before.folder after.folder status name programs _ calm.folder refuses (subst (λ (n : NetPlan). AllCertified before.folder.files n.cores programs) (one_net laws text net other good.1 is) all);
     }
-nets_complete one laws file text before after status name (read, console, inr ran) told calm =
+nets_complete one laws file text before after status name (console, inr ran) told calm =
     let good = told_net file text before.folder ran.net told ran.is_in in
     let answer = wrote before.out after.out _ _ status ran.writes calm.out in
     record {

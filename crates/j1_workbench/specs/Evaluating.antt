@@ -1,5 +1,5 @@
 -- `eval SRC`: a source is evaluated on the console and out, certified or not.
-use Rattle.std.specs.Prelude.{◌≡◌, ◌⊎◌, ℕ, zero, suc, List, Option, None, Some, Result, Ok, Err, ⊤}
+use Rattle.std.specs.Prelude.{◌≡◌, ◌⊎◌, ℕ, List, Result, Ok, Err, ⊤}
 use Rattle.forth_program.specs.Program.{SourceProgram}
 use Rattle.control_flow.specs.ParseResult.{Fine}
 use Rattle.control_flow.specs.SourceText.{program_of_text}

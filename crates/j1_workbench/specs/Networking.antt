@@ -1,5 +1,5 @@
 -- `net FILE`: the sources of a net file are compiled, their images run as an array of cores, and what each core printed is written to out.
-use Rattle.std.specs.Prelude.{◌≡◌, ◌⊎◌, ℕ, Bool, true, false, if◌then◌else◌, List, [], ◌∷◌, length}
+use Rattle.std.specs.Prelude.{◌≡◌, ◌⊎◌, ◌+◌, ℕ, Bool, true, false, if◌then◌else◌, List, [], ◌∷◌, length}
 use Rattle.std.specs.List.{list_all}
 use Rattle.j1_table.specs.Image.{Content}
 use Rattle.j1_simulator.specs.MachineState.{MachineState}
@@ -81,21 +81,27 @@ net_output net images = core_lines (length net.cores) 0 (net_run net images).pri
 abbrev pub WritesThen : Stream → Stream → List ℕ → Status → Status → Type 0
 WritesThen before after text ran status = (Writes before after text Done × (status ≡ ran)) ⊎ (Writes before after text WriteFault × (status ≡ WriteFault))
 
+-- the net file and the source of each core were read at most once
+abbrev pub ReadsOnce : NetPlan → FolderState → FolderState → Type 0
+ReadsOnce net before after = IsOnlyRead (1 + length net.cores) before after
+
 -- the net file is refused, or the source of one of its cores
 abbrev pub RefusesNet : List ℕ → FolderState → FolderState → Status → List ℕ → Type 0
 RefusesNet file before after status name =
-    (IsRefusedFile 65536 IsBadNet file before after status × (name ≡ [])) ⊎ ((net : NetPlan) × IsNetFile file before net × RefusesCores net.cores before after status name)
+    (IsOnlyRead 1 before after × IsRefusedFile 65536 IsBadNet file before after status × (name ≡ []))
+    ⊎ ((net : NetPlan) × IsNetFile file before net × ReadsOnce net before after × RefusesCores net.cores before after status name)
 
 -- the cores were run, and what each printed was written
 pub record RunsNet (file : List ℕ) (before after : Surroundings) (status : Status) : Type 0 where
   pub net : NetPlan
   pub is_in : IsNetFile file before.folder net
+  pub reads : ReadsOnce net before.folder after.folder
   pub images : List Content
   pub compiled : CompileEach net.cores before.folder images
   pub writes : WritesThen before.out after.out (net_output net images) (net_status net images) status
 
--- `net`: the net file and each source are read once; a refusal leaves out alone; the console is never asked
+-- `net`: a refusal leaves out alone; the console is never asked
 unfoldable pub Nets : List ℕ → Surroundings → Surroundings → Status → List ℕ → Type 0
 Nets file before after status name =
-    IsOnlyRead 17 before.folder after.folder × (after.console ≡ before.console)
+    (after.console ≡ before.console)
     × ((RefusesNet file before.folder after.folder status name × (after.out ≡ before.out)) ⊎ RunsNet file before after status)

@@ -1,5 +1,5 @@
 // What a command answers.
-ghost use Rattle.std.specs.Prelude.{◌≡◌, ◌≤◌, nat_le, if◌then◌else◌, [], length};
+ghost use Rattle.std.specs.Prelude.{◌≡◌, nat_le, if◌then◌else◌, [], length};
 ghost use Rattle.j1_workbench.specs.Notes.{named};
 
 use crate::status::Status;

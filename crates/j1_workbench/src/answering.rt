@@ -1,5 +1,5 @@
 // The answer of each command.
-ghost use Rattle.std.specs.Prelude.{◌≡◌, Option, ℕ};
+ghost use Rattle.std.specs.Prelude.{◌≡◌, Option};
 ghost use Rattle.j1_workbench.specs.Words.{asked, steps_allowed};
 ghost use Rattle.j1_workbench.specs.Notes.{named};
 ghost use Rattle.j1_workbench.specs.Surroundings.{folder, stream, surroundings};

@@ -1,6 +1,4 @@
 // `asm`: the file of the image that an assembly text stands for is written.
-ghost use Rattle.std.specs.Prelude.{◌≤◌, length, MatchResult};
-ghost use Rattle.image_file.specs.File.{IsImage, image_bytes};
 ghost use Rattle.j1_workbench.specs.Surroundings.{Stream, folder, surroundings};
 ghost use Rattle.j1_workbench.specs.Assembling.{AssemblesFile};
 

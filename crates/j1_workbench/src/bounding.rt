@@ -1,5 +1,5 @@
 // `bound`: the step bound of a program is written to out.
-ghost use Rattle.std.specs.Prelude.{◌≡◌, ◌++◌, ◌∷◌, [], decimal};
+ghost use Rattle.std.specs.Prelude.{◌++◌, ◌∷◌, [], decimal};
 ghost use Rattle.j1_workbench.specs.Notes.{named};
 ghost use Rattle.j1_workbench.specs.Surroundings.{Stream, folder, stream, surroundings};
 ghost use Rattle.j1_workbench.specs.Certifying.{Writes};

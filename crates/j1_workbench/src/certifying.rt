@@ -1,5 +1,4 @@
 // `certify`: the text of a certificate is written to out.
-ghost use Rattle.std.specs.Prelude.{◌≡◌};
 ghost use Rattle.j1_workbench.specs.Notes.{named};
 ghost use Rattle.j1_workbench.specs.Surroundings.{Stream, folder, stream, surroundings};
 ghost use Rattle.j1_workbench.specs.Certifying.{Certifies, Writes};

@@ -2,6 +2,7 @@
 mod arrays;
 mod bounds;
 mod commands;
+mod dictionaries;
 mod evaluation;
 mod folders;
 mod host_words;
@@ -16,6 +17,7 @@ mod phrases;
 mod programs;
 mod reading;
 mod rows;
+mod source_texts;
 mod sources;
 mod word_edges;
 mod words;

@@ -1,5 +1,5 @@
 // The top call.
-ghost use Rattle.std.specs.Prelude.{◌≡◌, map, string_bytes};
+ghost use Rattle.std.specs.Prelude.{map, string_bytes};
 ghost use Rattle.j1_workbench.specs.Surroundings.{folder, stream, surroundings};
 ghost use Rattle.j1_workbench.specs.Answers.{Answers};
 ghost use Rattle.j1_workbench.specs.Completeness.{AnswersAreComplete};

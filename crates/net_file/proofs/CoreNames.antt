@@ -1,11 +1,11 @@
 -- The files of a net's cores have the form of names.
-use Rattle.std.proofs.Common.{◌≡◌, ℕ, Bool, true, false, List, [], ◌∷◌, ◌++◌, map, Option, Some, None, refl, sym, ap, ◌∙◌, subst}
+use Rattle.std.proofs.Common.{◌≡◌, ℕ, Bool, true, false, List, [], ◌∷◌, ◌++◌, map, Option, Some, None, refl, sym, ap, ◌∙◌}
 use Rattle.std.specs.Prelude.{◌&&◌, if◌then◌else◌, codes}
 use Rattle.std.specs.List.{list_all}
 use Rattle.std.specs.Str.{bytes_eq}
 use Rattle.j1_assembler.specs.Text.{lines_of}
 use Rattle.net_file.specs.Numbers.{number_in}
-use Rattle.net_file.specs.Net.{NetPlan, NetRow, HeaderRow, CoreRow, LinkRow, TurnsRow, is_file_name, is_core_file, short_row, link_row, turns_row, long_row, row_of, fields_by_line, net_rows, AreNetLines, IsNetText}
+use Rattle.net_file.specs.Net.{NetPlan, NetRow, HeaderRow, CoreRow, LinkRow, TurnsRow, is_file_name, is_core_file, link_row, turns_row, row_of, fields_by_line, IsNetText}
 
 name_first : (a b : Bool) → (a && b) ≡ true → a ≡ true
 name_first true b e = refl

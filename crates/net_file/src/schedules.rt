@@ -1,6 +1,6 @@
 // The schedule of a net.
 ghost use Rattle.std.specs.Prelude.{◌≡◌, ◌<◌, ◌≤◌, ◌++◌, ℕ, length, replicate, slice_index, IfOk, OnOk};
-ghost use Rattle.net_file.specs.Schedule.{round_from, rounds_of, schedule_of};
+ghost use Rattle.net_file.specs.Schedule.{round_from, schedule_of};
 
 use crate::nets::Net;
 use std::alloc::{AllocError, Global};

@@ -15,14 +15,14 @@ read  | none/none | 10            | Absent
 read  | .         | 10            | Failed
 write | .         | x             | Failed
 write | none/none | x             | Failed
-write | a         | one line~     |
-read  | a         | 100           | one line~
-write | b         | ^00^FF^0D~^1A |
-read  | b         | 100           | ^00^FF^0D~^1A
-write | a         | one           |
-read  | a         | 100           | one
-write | b         |               |
-read  | b         | 100           |
+write | a.tmp     | one line~     |
+read  | a.tmp     | 100           | one line~
+write | b.tmp     | ^00^FF^0D~^1A |
+read  | b.tmp     | 100           | ^00^FF^0D~^1A
+write | a.tmp     | one           |
+read  | a.tmp     | 100           | one
+write | b.tmp     |               |
+read  | b.tmp     | 100           |
 "#;
 
 // The fourth call fails.
@@ -115,7 +115,7 @@ fn many_bytes(alloc: Global, count: usize) -> Result<Vec<u8>, AllocError> {
 
 // Whether a read of at most so many bytes gives the first of these, and no fewer than there are.
 fn reads_front<F: Folder>(alloc: Global, files: &mut F, bytes: &[u8], most: usize) -> bool {
-    match files.read(alloc, "long", most) {
+    match files.read(alloc, "long.tmp", most) {
         Ok(front) => front.len() == most.min(bytes.len()) && bytes.starts_with(front.as_slice()),
         Err(_) => false,
     }
@@ -126,7 +126,7 @@ fn reads_up_to_a_limit(rt: HostRuntime) -> Result<(), Fail> {
     let alloc = rt.alloc();
     let bytes = many_bytes(alloc, 40_000)?;
     let mut files = StdFolder::new(&rt);
-    let wrote = files.write(alloc, "long", bytes.as_slice()).is_ok();
+    let wrote = files.write(alloc, "long.tmp", bytes.as_slice()).is_ok();
     assert!(rt; wrote);
     for most in [0, 1, 4096, 39_999, 40_000, 40_001, 65_537] {
         let is_front = reads_front(alloc, &mut files, bytes.as_slice(), most);

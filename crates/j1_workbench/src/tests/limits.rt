@@ -50,8 +50,8 @@ pub(super) fn append_times(text: &mut String, piece: &str, count: u32) -> Result
     Ok(())
 }
 
-// The text of pieces.
-fn repeated(alloc: Global, pieces: &str) -> Result<String, Fail> {
+/// The text of pieces, each with how often it stands.
+pub(super) fn repeated(alloc: Global, pieces: &str) -> Result<String, Fail> {
     let mut text = String::new(alloc);
     for piece in pieces.split(',') {
         if let Some((piece, count)) = piece.trim_ascii().rsplit_once(' ') {

@@ -1,5 +1,4 @@
 use Rattle.std.proofs.Common.{◌≡◌, ◌++◌, drop, map}
-use Rattle.std.specs.List.{flat_map}
 use Rattle.made_sources.specs.MadeSource.{joined}
 use Rattle.j1_workbench.proofs.made_source.add_parts.Given as goal
 

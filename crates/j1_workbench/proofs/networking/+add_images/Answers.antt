@@ -1,4 +1,4 @@
-use Rattle.std.proofs.Common.{◌≡◌, ◌∷◌, length, map, string_bytes, take, drop, ◌-◌, sym, ap, ◌∙◌, arith, rules}
+use Rattle.std.proofs.Common.{◌∷◌, length, map, string_bytes, take, drop, ◌-◌, sym, ap, ◌∙◌, arith, rules}
 use Rattle.std.proofs.lemmas.List.{length-map}
 use Rattle.j1_workbench.specs.Notes.{named}
 use Rattle.j1_workbench.proofs.FilesRead.{on_either}
