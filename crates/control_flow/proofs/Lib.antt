@@ -2,6 +2,8 @@ pub mod Examples
 pub mod OutsideExamples
 pub mod Weights
 pub mod Readings
+pub mod ReadingOn
+pub mod Numbers
 pub mod ItemLists
 pub mod ArmLists
 pub mod BracketSteps
@@ -16,4 +18,7 @@ pub mod BodyFacts
 pub mod SourceFacts
 pub mod OutsideFacts
 pub mod TextFacts
-pub mod SourceSteps
+pub mod MoreBehind
+pub mod SourceMore
+pub mod ReadSteps
+pub mod KeptSource

@@ -20,7 +20,7 @@ front_short : (test : ℕ → Bool) (bs : List ℕ) → length (behind_front tes
 front_short test [] = omega arith
 front_short test (b ∷ bs) = front_on (test b) b bs (behind_front test bs) (front_short test bs)
 
-behind_short : (bs : List ℕ) → length (behind_graphic bs) ≤ length bs
+pub behind_short : (bs : List ℕ) → length (behind_graphic bs) ≤ length bs
 behind_short bs = front_short is_graphic bs
 
 -- a text that is read leaves no more bytes than there were

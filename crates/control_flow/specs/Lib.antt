@@ -12,3 +12,6 @@ pub mod OutsideWords
 pub mod SourceText
 pub mod Answers
 pub mod SourceLaw
+pub mod Pieces
+pub mod Numbering
+pub mod ReadingState

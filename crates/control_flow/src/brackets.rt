@@ -15,6 +15,7 @@ impl<'a> Parser<'a> {
         ensures gives { AnswersAs (λ _. parser_state self.new) result (acted_at item (parser_state self.old)) }
         ensures same { length self.new.reader.rest ≡ length self.old.reader.rest }
         ensures ready { OnOk result (IsReadyParser self.new) }
+        ensures entries { self.new.dictionary.pairs ≡ self.old.dictionary.pairs }
     {
         match self.host.act(item) {
             Ok(()) => Ok(()),
@@ -26,7 +27,8 @@ impl<'a> Parser<'a> {
     /// A string word reads its text before it is refused.
     pub(crate) fn quoted(&mut self, cause: SourceCause) -> SourceError
         requires { IsReadyParser self.old }
-        ensures { FailsAs result (quoted_at {A = Unit {0}} cause (parser_state self.old)) }
+        ensures gives { FailsAs result (quoted_at {A = Unit {0}} cause (parser_state self.old)) }
+        ensures entries { self.new.dictionary.pairs ≡ self.old.dictionary.pairs }
     {
         match self.quotation() {
             Ok(_) => SourceError::Refused(SourceRefusal {
@@ -43,6 +45,7 @@ impl<'a> Parser<'a> {
         ensures gives { (n : ℕ) → length self.old.reader.rest < n → AnswersAs (λ _. parser_state self.new) result (bracket_at n (parser_state self.old)) }
         ensures shorter { OnOk result (length self.new.reader.rest ≤ length self.old.reader.rest) }
         ensures ready { OnOk result (IsReadyParser self.new) }
+        ensures entries { self.new.dictionary.pairs ≡ self.old.dictionary.pairs }
     {
         'tokens: loop {
             let sense = match self.host_token() {

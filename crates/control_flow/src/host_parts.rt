@@ -42,6 +42,7 @@ impl<'a> Parser<'a> {
         ensures gives { (n : ℕ) → length self.old.reader.rest < n → AnswersAs (λ part. record { items = part.items.items; does = part.does; at = parser_state self.new }) result (host_part_at n (parser_state self.old)) }
         ensures shorter { OnOk result (length self.new.reader.rest ≤ length self.old.reader.rest) }
         ensures ready { OnOk result (IsReadyParser self.new) }
+        ensures entries { self.new.dictionary.pairs ≡ self.old.dictionary.pairs }
     {
         let mut items = Vec::new(alloc);
         'tokens: loop {

@@ -1,5 +1,5 @@
 // Reading the items of a definition.
-ghost use Rattle.std.specs.Prelude.{ℕ, ◌<◌, ◌≤◌, length, OnOk};
+ghost use Rattle.std.specs.Prelude.{◌≡◌, ℕ, ◌<◌, ◌≤◌, length, OnOk};
 ghost use Rattle.forth_program.specs.ItemTrees.{node_of, tree_of};
 ghost use Rattle.control_flow.specs.Items.{if_at, begin_at, do_at, q_do_at, body_at, case_at, structure_at, item_at, items_by, items_at};
 ghost use Rattle.control_flow.specs.Answers.{parser_state, IsReadyParser, AnswersAs};
@@ -30,6 +30,7 @@ impl<'a> Parser<'a> {
         ensures gives { (n : ℕ) → length self.old.reader.rest < n → AnswersAs (λ item. record { node = node_of item; at = parser_state self.new }) result (if_at (items_at n) (parser_state self.old)) }
         ensures shorter { OnOk result (length self.new.reader.rest ≤ length self.old.reader.rest) }
         ensures ready { OnOk result (IsReadyParser self.new) }
+        ensures entries { self.new.dictionary.pairs ≡ self.old.dictionary.pairs }
     {
         let first = self.items(alloc)?;
         match first.ending {
@@ -52,6 +53,7 @@ impl<'a> Parser<'a> {
         ensures gives { (n : ℕ) → length self.old.reader.rest < n → AnswersAs (λ item. record { node = node_of item; at = parser_state self.new }) result (begin_at (items_at n) (parser_state self.old)) }
         ensures shorter { OnOk result (length self.new.reader.rest ≤ length self.old.reader.rest) }
         ensures ready { OnOk result (IsReadyParser self.new) }
+        ensures entries { self.new.dictionary.pairs ≡ self.old.dictionary.pairs }
     {
         let first = self.items(alloc)?;
         match first.ending {
@@ -75,6 +77,7 @@ impl<'a> Parser<'a> {
         ensures gives { (n : ℕ) → length self.old.reader.rest < n → AnswersAs (λ item. record { node = node_of item; at = parser_state self.new }) result (do_at (items_at n) (parser_state self.old)) }
         ensures shorter { OnOk result (length self.new.reader.rest ≤ length self.old.reader.rest) }
         ensures ready { OnOk result (IsReadyParser self.new) }
+        ensures entries { self.new.dictionary.pairs ≡ self.old.dictionary.pairs }
     {
         let body = self.items(alloc)?;
         match body.ending {
@@ -91,6 +94,7 @@ impl<'a> Parser<'a> {
         ensures gives { (n : ℕ) → length self.old.reader.rest < n → AnswersAs (λ item. record { node = node_of item; at = parser_state self.new }) result (q_do_at (items_at n) (parser_state self.old)) }
         ensures shorter { OnOk result (length self.new.reader.rest ≤ length self.old.reader.rest) }
         ensures ready { OnOk result (IsReadyParser self.new) }
+        ensures entries { self.new.dictionary.pairs ≡ self.old.dictionary.pairs }
     {
         let body = self.items(alloc)?;
         match body.ending {
@@ -107,6 +111,7 @@ impl<'a> Parser<'a> {
         ensures gives { (n : ℕ) → length self.old.reader.rest < n → AnswersAs (λ items. record { nodes = tree_of items; at = parser_state self.new }) result (body_at (items_at n) (parser_state self.old)) }
         ensures shorter { OnOk result (length self.new.reader.rest < length self.old.reader.rest) }
         ensures ready { OnOk result (IsReadyParser self.new) }
+        ensures entries { self.new.dictionary.pairs ≡ self.old.dictionary.pairs }
     {
         let body = self.items(alloc)?;
         match body.ending {
@@ -122,6 +127,7 @@ impl<'a> Parser<'a> {
         ensures gives { (n m : ℕ) → length self.old.reader.rest < n → length self.old.reader.rest < m → AnswersAs (λ item. record { node = node_of item; at = parser_state self.new }) result (case_at (items_at n) m (parser_state self.old)) }
         ensures shorter { OnOk result (length self.new.reader.rest ≤ length self.old.reader.rest) }
         ensures ready { OnOk result (IsReadyParser self.new) }
+        ensures entries { self.new.dictionary.pairs ≡ self.old.dictionary.pairs }
     {
         let mut arms = Arms::new(alloc);
         'arms: loop {
@@ -152,6 +158,7 @@ impl<'a> Parser<'a> {
         ensures gives { (n m : ℕ) → length self.old.reader.rest < n → length self.old.reader.rest < m → AnswersAs (λ item. record { node = node_of item; at = parser_state self.new }) result (structure_at (items_at n) m opening (parser_state self.old)) }
         ensures shorter { OnOk result (length self.new.reader.rest ≤ length self.old.reader.rest) }
         ensures ready { OnOk result (IsReadyParser self.new) }
+        ensures entries { self.new.dictionary.pairs ≡ self.old.dictionary.pairs }
     {
         match opening {
             Opening::If => self.if_item(alloc),
@@ -169,6 +176,7 @@ impl<'a> Parser<'a> {
         ensures gives { (n m : ℕ) → length self.old.reader.rest < n → length self.old.reader.rest < m → AnswersAs (λ item. record { node = node_of item; at = parser_state self.new }) result (item_at (items_at n) m (parser_state self.old) sense) }
         ensures shorter { OnOk result (length self.new.reader.rest ≤ length self.old.reader.rest) }
         ensures ready { OnOk result (IsReadyParser self.new) }
+        ensures entries { self.new.dictionary.pairs ≡ self.old.dictionary.pairs }
     {
         match sense {
             Sense::Number(cell) => self.alone(2, Item::Literal(cell)),
@@ -214,6 +222,7 @@ impl<'a> Parser<'a> {
         ensures gives { (n : ℕ) → length self.old.reader.rest < n → AnswersAs (λ body. record { nodes = tree_of body.items; ending = body.ending; at = parser_state self.new }) result (items_by (items_at n) n (parser_state self.old) first) }
         ensures shorter { OnOk result (length self.new.reader.rest ≤ length self.old.reader.rest) }
         ensures ready { OnOk result (IsReadyParser self.new) }
+        ensures entries { self.new.dictionary.pairs ≡ self.old.dictionary.pairs }
     {
         let mut done = Items::new(alloc);
         let mut sense = first;
@@ -260,6 +269,7 @@ impl<'a> Parser<'a> {
         ensures gives { (n : ℕ) → length self.old.reader.rest < n → AnswersAs (λ body. record { nodes = tree_of body.items; ending = body.ending; at = parser_state self.new }) result (items_at n (parser_state self.old)) }
         ensures shorter { OnOk result (length self.new.reader.rest < length self.old.reader.rest) }
         ensures ready { OnOk result (IsReadyParser self.new) }
+        ensures entries { self.new.dictionary.pairs ≡ self.old.dictionary.pairs }
     {
         let first = match self.token() {
             Ok(sense) => sense,

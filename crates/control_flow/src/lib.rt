@@ -16,6 +16,8 @@ mod nest;
 mod outside_sense;
 mod outside_words;
 mod parser;
+mod piece_reader;
+mod pieces;
 mod refusal;
 mod sense;
 mod single_items;
@@ -25,5 +27,6 @@ mod ticks;
 
 pub use laws::{programs_are_sources, tests_widen, texts_are_judged};
 pub use nest::{Ending, Nest, Open};
+pub use pieces::Reading;
 pub use refusal::{SourceCause, SourceError, SourceRefusal};
 pub use source::read_program;

@@ -1,10 +1,11 @@
 // The open structures of a definition.
-ghost use Rattle.std.specs.Prelude.{◌≡◌, []};
+ghost use Rattle.std.specs.Prelude.{◌≡◌, [], IfOk};
 ghost use Rattle.control_flow.specs.Nest.{open_of, step_of, with_open, nest_ended, is_do, any_do, is_inside_do, nest_left, opened_by, nest_closed_by, Nested};
 ghost use Rattle.control_flow.specs.Sense.{opening_word, ending_word};
 
 use crate::refusal::SourceCause;
 use arrayvec::ArrayVec;
+use std::alloc::AllocError;
 use std::marker::Model;
 use word_table::Word;
 
@@ -192,6 +193,14 @@ impl Nest {
         Nest {
             structures: ArrayVec::new(),
         }
+    }
+
+    /// The same structures.
+    pub(crate) fn copy(&self) -> Result<Nest, AllocError>
+        ensures { IfOk result (λ copy. copy ≡ self.now) }
+    {
+        let structures = self.structures.clone()?;
+        Ok(Nest { structures })
     }
 
     /// A structure opens. TooDeep comes exactly at a 17th.

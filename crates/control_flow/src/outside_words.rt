@@ -2,6 +2,7 @@
 ghost use Rattle.std.specs.Prelude.{◌≡◌, ◌<◌, ◌≤◌, ◌+◌, length, OnOk, IfErr};
 ghost use Rattle.forth_reader.specs.Name.{IsName};
 ghost use Rattle.control_flow.specs.OutsideWords.{with_name, constant_at, variable_at, create_at, child_of, child_at, outside_tick_at, outside_char_at, code_cells_at};
+ghost use Rattle.control_flow.specs.ReadingState.{BeginsWith};
 ghost use Rattle.control_flow.specs.Answers.{parser_state, IsReadyParser, AnswersAs};
 
 use crate::parser::Parser;
@@ -32,6 +33,7 @@ impl<'a> Parser<'a> {
         ensures ready { OnOk result (IsReadyParser self.new) }
         ensures longer { OnOk result (length self.new.dictionary.pairs ≡ length self.old.dictionary.pairs + 1) }
         ensures kept { (self.new.definitions ≡ self.old.definitions) × (self.new.reader ≡ self.old.reader) }
+        ensures entries { BeginsWith self.old.dictionary.pairs self.new.dictionary.pairs }
     {
         let number = self.dictionary.len() as u16;
         match self.dictionary.add(name, Entry { number, known }) {
@@ -47,6 +49,7 @@ impl<'a> Parser<'a> {
         ensures shorter { OnOk result (length self.new.reader.rest ≤ length self.old.reader.rest) }
         ensures ready { OnOk result (IsReadyParser self.new) }
         ensures kept { OnOk result ((self.new.definitions ≡ self.old.definitions) × (length self.old.dictionary.pairs ≤ length self.new.dictionary.pairs)) }
+        ensures entries { BeginsWith self.old.dictionary.pairs self.new.dictionary.pairs }
     {
         let cell = match self.host.pop() {
             Ok(cell) => cell,
@@ -64,6 +67,7 @@ impl<'a> Parser<'a> {
         ensures shorter { OnOk result (length self.new.reader.rest ≤ length self.old.reader.rest) }
         ensures ready { OnOk result (IsReadyParser self.new) }
         ensures kept { OnOk result ((self.new.definitions ≡ self.old.definitions) × (length self.old.dictionary.pairs ≤ length self.new.dictionary.pairs)) }
+        ensures entries { BeginsWith self.old.dictionary.pairs self.new.dictionary.pairs }
     {
         let number = self.reader.count();
         let name = self.name()?;
@@ -82,6 +86,7 @@ impl<'a> Parser<'a> {
         ensures shorter { OnOk result (length self.new.reader.rest ≤ length self.old.reader.rest) }
         ensures ready { OnOk result (IsReadyParser self.new) }
         ensures kept { OnOk result ((self.new.definitions ≡ self.old.definitions) × (length self.old.dictionary.pairs ≤ length self.new.dictionary.pairs)) }
+        ensures entries { BeginsWith self.old.dictionary.pairs self.new.dictionary.pairs }
     {
         let number = self.reader.count();
         let name = self.name()?;
@@ -100,6 +105,7 @@ impl<'a> Parser<'a> {
         ensures shorter { OnOk result (length self.new.reader.rest ≤ length self.old.reader.rest) }
         ensures ready { OnOk result (IsReadyParser self.new) }
         ensures kept { OnOk result ((self.new.definitions ≡ self.old.definitions) × (length self.old.dictionary.pairs ≤ length self.new.dictionary.pairs)) }
+        ensures entries { BeginsWith self.old.dictionary.pairs self.new.dictionary.pairs }
     {
         let number = self.reader.count();
         let name = self.name()?;
@@ -118,6 +124,7 @@ impl<'a> Parser<'a> {
         ensures shorter { OnOk result (length self.new.reader.rest ≤ length self.old.reader.rest) }
         ensures ready { OnOk result (IsReadyParser self.new) }
         ensures kept { OnOk result ((self.new.definitions ≡ self.old.definitions) × (length self.old.dictionary.pairs ≤ length self.new.dictionary.pairs)) }
+        ensures entries { self.new.dictionary.pairs ≡ self.old.dictionary.pairs }
     {
         let number = self.reader.count();
         let name = self.spelled()?;
@@ -145,6 +152,7 @@ impl<'a> Parser<'a> {
         ensures shorter { OnOk result (length self.new.reader.rest ≤ length self.old.reader.rest) }
         ensures ready { OnOk result (IsReadyParser self.new) }
         ensures kept { OnOk result ((self.new.definitions ≡ self.old.definitions) × (length self.old.dictionary.pairs ≤ length self.new.dictionary.pairs)) }
+        ensures entries { self.new.dictionary.pairs ≡ self.old.dictionary.pairs }
     {
         let number = self.reader.count();
         let name = self.spelled()?;
@@ -162,6 +170,7 @@ impl<'a> Parser<'a> {
         ensures shorter { OnOk result (length self.new.reader.rest ≤ length self.old.reader.rest) }
         ensures ready { OnOk result (IsReadyParser self.new) }
         ensures kept { OnOk result ((self.new.definitions ≡ self.old.definitions) × (length self.old.dictionary.pairs ≤ length self.new.dictionary.pairs)) }
+        ensures entries { self.new.dictionary.pairs ≡ self.old.dictionary.pairs }
     {
         host_words_keep();
         match self.host.code_cells(alloc, is_due) {

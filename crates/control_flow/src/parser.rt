@@ -14,17 +14,17 @@ ghost use Rattle.control_flow.specs.Answers.{parser_state, IsReadyParser, Answer
 use crate::host_sense::{HostSense, host_sense_of, known_host_sense};
 use crate::nest::{Ending, Nest, Opening, ending_word, open_of, opening_word};
 use crate::outside_sense::{OutsideSense, known_outside_sense, outside_sense_of};
+use crate::piece_reader::PieceReader;
 use crate::refusal::{SourceCause, SourceError, refused, source_cause};
 use crate::sense::{Sense, is_reserved_name, known_sense, sense_of};
 use dictionary_core::Dictionary;
-use forth_reader::Reader;
 use host_state::{Entry, HostState};
 use word_table::entry;
 
 /// A place in a source, and what the source has come to.
 #[derive(Drop)]
 pub(crate) struct Parser<'a> {
-    pub(crate) reader: Reader<'a>,
+    pub(crate) reader: PieceReader<'a>,
     /// The sum of the weights so far.
     pub(crate) weight: u32,
     /// The open structures of the definition that is read.
@@ -47,6 +47,7 @@ impl<'a> Parser<'a> {
         ensures gives { AnswersAs (λ _. parser_state self.new) result (weighed_as number weight (parser_state self.old)) }
         ensures same { length self.new.reader.rest ≡ length self.old.reader.rest }
         ensures ready { OnOk result (IsReadyParser self.new) }
+        ensures entries { self.new.dictionary.pairs ≡ self.old.dictionary.pairs }
     {
         let most = u32::from(self.host.data_start() / 2 - 1696);
         if self.weight + u32::from(weight) > most {
@@ -62,6 +63,7 @@ impl<'a> Parser<'a> {
         ensures gives { AnswersAs (λ _. parser_state self.new) result (weighed weight (parser_state self.old)) }
         ensures same { length self.new.reader.rest ≡ length self.old.reader.rest }
         ensures ready { OnOk result (IsReadyParser self.new) }
+        ensures entries { self.new.dictionary.pairs ≡ self.old.dictionary.pairs }
     {
         let number = self.reader.count();
         self.weigh_as(number, weight)
@@ -73,6 +75,7 @@ impl<'a> Parser<'a> {
         ensures gives { AnswersAs (λ _. parser_state self.new) result (opened_at opening (parser_state self.old)) }
         ensures same { length self.new.reader.rest ≡ length self.old.reader.rest }
         ensures ready { OnOk result (IsReadyParser self.new) }
+        ensures entries { self.new.dictionary.pairs ≡ self.old.dictionary.pairs }
     {
         match self.nest.open(open_of(opening)) {
             Ok(()) => self.weigh(entry(opening_word(opening)).weight),
@@ -86,6 +89,7 @@ impl<'a> Parser<'a> {
         ensures gives { AnswersAs (λ _. parser_state self.new) result (ended_at ending (parser_state self.old)) }
         ensures same { length self.new.reader.rest ≡ length self.old.reader.rest }
         ensures ready { OnOk result (IsReadyParser self.new) }
+        ensures entries { self.new.dictionary.pairs ≡ self.old.dictionary.pairs }
     {
         match self.nest.end(ending) {
             Ok(()) => self.weigh(entry(ending_word(ending)).weight),
@@ -97,6 +101,7 @@ impl<'a> Parser<'a> {
     fn sense(&mut self, token: &str) -> Sense
         ensures value { result ≡ sense_in self.old.dictionary.pairs (base_at (parser_state self.old)) token.now }
         ensures same { parser_state self.new ≡ parser_state self.old }
+        ensures entries { self.new.dictionary.pairs ≡ self.old.dictionary.pairs }
         ensures reader { self.new.reader ≡ self.old.reader }
         ensures weight { self.new.weight ≡ self.old.weight }
     {
@@ -110,6 +115,7 @@ impl<'a> Parser<'a> {
     fn host_sense(&mut self, token: &str) -> HostSense
         ensures value { result ≡ host_sense_in self.old.dictionary.pairs (base_at (parser_state self.old)) token.now }
         ensures same { parser_state self.new ≡ parser_state self.old }
+        ensures entries { self.new.dictionary.pairs ≡ self.old.dictionary.pairs }
         ensures reader { self.new.reader ≡ self.old.reader }
         ensures weight { self.new.weight ≡ self.old.weight }
     {
@@ -123,6 +129,7 @@ impl<'a> Parser<'a> {
     fn outside_sense(&mut self, token: &str) -> OutsideSense
         ensures value { result ≡ outside_sense_in self.old.dictionary.pairs (base_at (parser_state self.old)) token.now }
         ensures same { parser_state self.new ≡ parser_state self.old }
+        ensures entries { self.new.dictionary.pairs ≡ self.old.dictionary.pairs }
         ensures reader { self.new.reader ≡ self.old.reader }
         ensures weight { self.new.weight ≡ self.old.weight }
     {
@@ -138,6 +145,7 @@ impl<'a> Parser<'a> {
         ensures gives { AnswersAs (λ sense. record { sense = sense; at = parser_state self.new }) result (token_at (parser_state self.old)) }
         ensures shorter { OnOk result (length self.new.reader.rest < length self.old.reader.rest) }
         ensures ready { OnOk result (IsReadyParser self.new) }
+        ensures entries { self.new.dictionary.pairs ≡ self.old.dictionary.pairs }
     {
         match self.reader.next() {
             Err(refusal) => refused(refusal.token, source_cause(refusal.cause)),
@@ -152,6 +160,7 @@ impl<'a> Parser<'a> {
         ensures gives { AnswersAs (λ sense. record { sense = sense; at = parser_state self.new }) result (host_token_at (parser_state self.old)) }
         ensures shorter { OnOk result (length self.new.reader.rest < length self.old.reader.rest) }
         ensures ready { OnOk result (IsReadyParser self.new) }
+        ensures entries { self.new.dictionary.pairs ≡ self.old.dictionary.pairs }
     {
         match self.reader.next() {
             Err(refusal) => refused(refusal.token, source_cause(refusal.cause)),
@@ -166,6 +175,7 @@ impl<'a> Parser<'a> {
         ensures gives { AnswersAs (λ text. record { text = text.now; at = parser_state self.new }) result (quotation_at (parser_state self.old)) }
         ensures shorter { OnOk result (length self.new.reader.rest ≤ length self.old.reader.rest) }
         ensures ready { OnOk result (IsReadyParser self.new) }
+        ensures entries { self.new.dictionary.pairs ≡ self.old.dictionary.pairs }
     {
         match self.reader.string() {
             Ok(text) => Ok(text),

@@ -45,6 +45,7 @@ impl<'a> Parser<'a> {
         ensures gives { AnswersAs (λ item. record { node = node_of item; at = parser_state self.new }) result (alone_as number weight (node_of item) (parser_state self.old)) }
         ensures same { length self.new.reader.rest ≡ length self.old.reader.rest }
         ensures ready { OnOk result (IsReadyParser self.new) }
+        ensures entries { self.new.dictionary.pairs ≡ self.old.dictionary.pairs }
     {
         match self.weigh_as(number, weight) {
             Ok(()) => Ok(item),
@@ -58,6 +59,7 @@ impl<'a> Parser<'a> {
         ensures gives { AnswersAs (λ item. record { node = node_of item; at = parser_state self.new }) result (alone weight (node_of item) (parser_state self.old)) }
         ensures same { length self.new.reader.rest ≡ length self.old.reader.rest }
         ensures ready { OnOk result (IsReadyParser self.new) }
+        ensures entries { self.new.dictionary.pairs ≡ self.old.dictionary.pairs }
     {
         let number = self.reader.count();
         self.alone_as(number, weight, item)
@@ -69,6 +71,7 @@ impl<'a> Parser<'a> {
         ensures gives { AnswersAs (λ item. record { node = node_of item; at = parser_state self.new }) result (char_at (parser_state self.old)) }
         ensures shorter { OnOk result (length self.new.reader.rest ≤ length self.old.reader.rest) }
         ensures ready { OnOk result (IsReadyParser self.new) }
+        ensures entries { self.new.dictionary.pairs ≡ self.old.dictionary.pairs }
     {
         let number = self.reader.count();
         let name = self.spelled()?;
@@ -82,6 +85,7 @@ impl<'a> Parser<'a> {
         ensures gives { AnswersAs (λ item. record { node = node_of item; at = parser_state self.new }) result (text_at kind (parser_state self.old)) }
         ensures shorter { OnOk result (length self.new.reader.rest ≤ length self.old.reader.rest) }
         ensures ready { OnOk result (IsReadyParser self.new) }
+        ensures entries { self.new.dictionary.pairs ≡ self.old.dictionary.pairs }
     {
         let text = self.quotation()?;
         let address = match self.host.text(text) {
@@ -101,6 +105,7 @@ impl<'a> Parser<'a> {
     pub(crate) fn ticked(&mut self, name: &str) -> Result<Ticked, SourceCause>
         ensures value { result ≡ ticked_in self.old.dictionary.pairs name.now }
         ensures same { parser_state self.new ≡ parser_state self.old }
+        ensures entries { self.new.dictionary.pairs ≡ self.old.dictionary.pairs }
         ensures reader { self.new.reader ≡ self.old.reader }
         ensures weight { self.new.weight ≡ self.old.weight }
     {
@@ -116,6 +121,7 @@ impl<'a> Parser<'a> {
         ensures gives { AnswersAs (λ item. record { node = node_of item; at = parser_state self.new }) result (tick_at (parser_state self.old)) }
         ensures shorter { OnOk result (length self.new.reader.rest ≤ length self.old.reader.rest) }
         ensures ready { OnOk result (IsReadyParser self.new) }
+        ensures entries { self.new.dictionary.pairs ≡ self.old.dictionary.pairs }
     {
         let number = self.reader.count();
         let name = self.spelled()?;
@@ -137,6 +143,7 @@ impl<'a> Parser<'a> {
         ensures gives { AnswersAs (λ item. record { node = node_of item; at = parser_state self.new }) result (literal_at (parser_state self.old)) }
         ensures same { length self.new.reader.rest ≡ length self.old.reader.rest }
         ensures ready { OnOk result (IsReadyParser self.new) }
+        ensures entries { self.new.dictionary.pairs ≡ self.old.dictionary.pairs }
     {
         match self.host.pop() {
             Ok(cell) => self.alone(entry(Word::Literal).weight, Item::Literal(cell)),

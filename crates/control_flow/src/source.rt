@@ -5,18 +5,20 @@ ghost use Rattle.forth_program.specs.ItemTrees.{tree_of};
 ghost use Rattle.forth_reader.specs.Name.{IsName};
 ghost use Rattle.control_flow.specs.ParseResult.{Each};
 ghost use Rattle.control_flow.specs.SourceText.{main_of, source_start, with_body, with_definition, with_defining, defining_at, definition_at, outside_by, program_of_source, program_of_text};
+ghost use Rattle.control_flow.specs.Pieces.{read_at};
+ghost use Rattle.control_flow.specs.ReadingState.{Grows};
 ghost use Rattle.control_flow.specs.Answers.{parser_state, source_of, IsReadyParser, IsCounted, AnswersAs};
 
 use crate::before::{Before, before_next, is_due};
 use crate::nest::{Ending, Nest};
 use crate::outside_sense::OutsideSense;
 use crate::parser::Parser;
+use crate::piece_reader::PieceReader;
 use crate::refusal::{SourceCause, SourceError, refused};
 use crate::sense::is_create;
 use crate::ticks::program_tokens;
 use dictionary_core::Dictionary;
 use forth_program::{DefId, Items, Name, Program, ProgramParts};
-use forth_reader::Reader;
 use host_state::{Entry, HostItem, HostState, Known, host_words_keep};
 use std::alloc::{AllocError, Global};
 
@@ -56,7 +58,7 @@ fn main_of(entry: Option<Entry>) -> Option<u16>
 
 impl<'a> ReadSource<'a> {
     /// A source at its start.
-    fn new(alloc: Global, bytes: &'a [u8]) -> Result<ReadSource<'a>, AllocError>
+    pub(crate) fn new(alloc: Global, bytes: &'a [u8]) -> Result<ReadSource<'a>, AllocError>
         requires { length bytes.now < 4294967295 }
         ensures start { IfOk result (λ source. source_of source ≡ source_start bytes.now) }
         ensures ready { IfOk result (λ source. IsReadyParser source.parser) }
@@ -66,7 +68,7 @@ impl<'a> ReadSource<'a> {
         let host = HostState::new(alloc, 8192)?;
         Ok(ReadSource {
             parser: Parser {
-                reader: Reader::new(bytes),
+                reader: PieceReader::new(bytes, 0),
                 weight: 0,
                 nest: Nest::new(),
                 dictionary,
@@ -91,6 +93,7 @@ impl<'a> ReadSource<'a> {
         ensures memory { IfErr result (λ error. error ≡ SourceError.OutOfMemory) }
         ensures kept { OnOk result (self.new.parser ≡ record self.old.parser { definitions = self.old.parser.definitions + 1 }) }
         ensures counted { OnOk result (IsCounted self.new) }
+        ensures grows { Grows self.old self.new }
     {
         let kept = match Name::new(name) {
             Some(kept) => kept,
@@ -119,6 +122,7 @@ impl<'a> ReadSource<'a> {
         ensures same { OnOk result (length self.new.parser.reader.rest ≡ length self.old.parser.reader.rest) }
         ensures ready { OnOk result (IsReadyParser self.new.parser) }
         ensures counted { OnOk result (IsCounted self.new) }
+        ensures grows { Grows self.old self.new }
     {
         let definition = self.parser.definitions;
         self.parser.enter(name, Known::Definition(definition))?;
@@ -144,6 +148,7 @@ impl<'a> ReadSource<'a> {
         ensures same { OnOk result (length self.new.parser.reader.rest ≡ length self.old.parser.reader.rest) }
         ensures ready { OnOk result (IsReadyParser self.new.parser) }
         ensures counted { OnOk result (IsCounted self.new) }
+        ensures grows { Grows self.old self.new }
     {
         let number = self.defining.len() as u16;
         self.parser.enter(name, Known::Defining(number))?;
@@ -166,6 +171,7 @@ impl<'a> ReadSource<'a> {
         ensures shorter { OnOk result (length self.new.parser.reader.rest ≤ length self.old.parser.reader.rest) }
         ensures ready { OnOk result (IsReadyParser self.new.parser) }
         ensures counted { OnOk result (IsCounted self.new) }
+        ensures grows { Grows self.old self.new }
     {
         host_words_keep();
         let part = self.parser.host_part(alloc)?;
@@ -192,6 +198,7 @@ impl<'a> ReadSource<'a> {
         ensures shorter { OnOk result (length self.new.parser.reader.rest ≤ length self.old.parser.reader.rest) }
         ensures ready { OnOk result (IsReadyParser self.new.parser) }
         ensures counted { OnOk result (IsCounted self.new) }
+        ensures grows { Grows self.old self.new }
     {
         host_words_keep();
         let name = self.parser.name()?;
@@ -214,6 +221,7 @@ impl<'a> ReadSource<'a> {
         ensures shorter { OnOk result (length self.new.parser.reader.rest ≤ length self.old.parser.reader.rest) }
         ensures ready { OnOk result (IsReadyParser self.new.parser) }
         ensures counted { OnOk result (IsCounted self.new) }
+        ensures grows { Grows self.old self.new }
     {
         match sense {
             OutsideSense::Begins => return self.definition(alloc),
@@ -237,8 +245,30 @@ impl<'a> ReadSource<'a> {
         Ok(())
     }
 
+    /// What stands up to the end of the text.
+    pub(crate) fn read_on(&mut self, alloc: Global) -> Result<(), SourceError>
+        requires ready { IsReadyParser self.old.parser }
+        requires counted { IsCounted self.old }
+        ensures gives { (n : ℕ) → length self.old.parser.reader.rest < n → AnswersAs (λ _. source_of self.new) result (read_at n (source_of self.old)) }
+        ensures ready { OnOk result (IsReadyParser self.new.parser) }
+        ensures counted { OnOk result (IsCounted self.new) }
+        ensures grows { Grows self.old self.new }
+    {
+        'tokens: loop {
+            let sense = match self.parser.outside() {
+                Ok(Some(sense)) => sense,
+                Ok(None) => return Ok(()),
+                Err(error) => return Err(error),
+            };
+            match self.outside_word(alloc, sense) {
+                Ok(()) => {}
+                Err(error) => return Err(error),
+            }
+        }
+    }
+
     /// The program, at the end of the text.
-    fn program(self, alloc: Global) -> Result<Program, SourceError>
+    pub(crate) fn program(self, alloc: Global) -> Result<Program, SourceError>
         requires counted { IsCounted self }
         requires form { Each IsProgram (program_of_source (source_of self) (parser_state self.parser)) }
         ensures { AnswersAs (λ program. program) result (program_of_source (source_of self.entry) (parser_state self.entry.parser)) }
@@ -292,15 +322,8 @@ pub fn read_program(alloc: Global, bytes: &[u8]) -> Result<Program, SourceError>
         Ok(source) => source,
         Err(AllocError) => return Err(SourceError::OutOfMemory),
     };
-    'tokens: loop {
-        let sense = match source.parser.outside() {
-            Ok(Some(sense)) => sense,
-            Ok(None) => return source.program(alloc),
-            Err(error) => return Err(error),
-        };
-        match source.outside_word(alloc, sense) {
-            Ok(()) => {}
-            Err(error) => return Err(error),
-        }
+    match source.read_on(alloc) {
+        Ok(()) => source.program(alloc),
+        Err(error) => Err(error),
     }
 }

@@ -14,6 +14,7 @@ mod networks;
 mod notation;
 mod numbers;
 mod phrases;
+mod pieces;
 mod programs;
 mod reading;
 mod rows;

@@ -1,4 +1,4 @@
-use Rattle.std.proofs.Common.{arith, ◌∙◌, ap, sym, ◌-◌, length}
+use Rattle.std.proofs.Common.{arith, refl, ◌∙◌, ap, sym, ◌-◌, length}
 use Rattle.forth_program.specs.ItemTrees.{items_of, arms_of}
 use Rattle.control_flow.specs.ParseResult.{Fine}
 use Rattle.control_flow.specs.Items.{items_at}
@@ -20,6 +20,7 @@ items_from-tokens-init t c = record {
   same = λ n h. started _ c.new-done.ensures n (parser_state c.args.self.now) c.args.first h;
   room = omega arith;
   ready = c.requires;
+  entries = refl;
 }
 
 pub items_from-returns-in-Ok-clause-gives : goal.items_from-returns-in-Ok-clause-gives
@@ -36,6 +37,7 @@ items_from-tokens-preserved-in-Brackets t c = record {
       c.in-Ok-token.sense (parser_state c.token.new.self) c.in-Ok-token.ensures.gives (omega (arith, c.in-Ok-token.ensures.shorter));
   room = omega (arith, c.tokens.invariant.room, c.in-Ok-bracket.ensures.shorter, c.in-Ok-token.ensures.shorter);
   ready = c.in-Ok-token.ensures.ready;
+  entries = c.token.ensures.entries ∙ c.bracket.ensures.entries ∙ c.tokens.invariant.entries;
 }
 
 pub items_from-tokens-preserved : goal.items_from-tokens-preserved
@@ -49,6 +51,7 @@ items_from-tokens-preserved t c = record {
       c.in-Ok-token-2.sense (parser_state c.token-in-tokens.new.self) c.in-Ok-token-2.ensures.gives (omega (arith, c.in-Ok-token-2.ensures.shorter));
   room = omega (arith, c.tokens.invariant.room, c.in-Ok-item.ensures.shorter, c.in-Ok-token-2.ensures.shorter);
   ready = c.in-Ok-token-2.ensures.ready;
+  entries = c.token-in-tokens.ensures.entries ∙ c.item.ensures.entries ∙ c.tokens.invariant.entries;
 }
 
 pub items_from-returns-in-Err-token : goal.items_from-returns-in-Err-token
@@ -61,6 +64,7 @@ items_from-returns-in-Err-token t c = record {
       c.in-Err-token.error c.in-Err-token.ensures.gives;
   shorter = tt;
   ready = tt;
+  entries = c.token.ensures.entries ∙ c.bracket.ensures.entries ∙ c.tokens.invariant.entries;
 }
 
 pub items_from-returns-in-Err-item : goal.items_from-returns-in-Err-item
@@ -71,6 +75,7 @@ items_from-returns-in-Err-item t c = record {
       c.in-Err-item.error (c.in-Err-item.ensures.gives here.fuel here.fuel here.enough here.enough);
   shorter = tt;
   ready = tt;
+  entries = c.item.ensures.entries ∙ c.tokens.invariant.entries;
 }
 
 pub items_from-returns-in-Err-token-2 : goal.items_from-returns-in-Err-token-2
@@ -84,6 +89,7 @@ items_from-returns-in-Err-token-2 t c = record {
       c.in-Err-token-2.error c.in-Err-token-2.ensures.gives;
   shorter = tt;
   ready = tt;
+  entries = c.token-in-tokens.ensures.entries ∙ c.item.ensures.entries ∙ c.tokens.invariant.entries;
 }
 
 pub case_item-returns-in-Err-clause-gives : goal.case_item-returns-in-Err-clause-gives
@@ -104,6 +110,7 @@ case_item-returns-in_default t c = rw c.refuse.ensures (record {
       c.in-Ok.tests.items c.in-Ok.tests.ending (parser_state c.items.new.self) (c.in-Ok.ensures.gives n (omega (arith, c.arms.invariant.room))) c.in_default.not-Of c.in_default.not-EndCase;
   shorter = tt;
   ready = tt;
+  entries = c.items.ensures.entries ∙ c.arms.invariant.entries;
 })
 
 pub case_item-returns-in-Err-arm_body-clause-gives : goal.case_item-returns-in-Err-arm_body-clause-gives
@@ -121,4 +128,5 @@ case_item-arms-preserved t c = record {
       ∙ one_arm_more (arms_of c.arms.arms) (arms_of c.push.new.self) _ (items_at n) m (parser_state c.arm_body.new.self) c.in-Ok-push.ensures.ok;
   room = omega (arith, c.arms.invariant.room, longer _ _ _ c.in-Ok-push.ensures.ok, c.in-Ok.ensures.shorter, c.in-Ok-arm_body.ensures.shorter);
   ready = c.in-Ok-arm_body.ensures.ready;
+  entries = c.arm_body.ensures.entries ∙ c.items.ensures.entries ∙ c.arms.invariant.entries;
 }

@@ -41,6 +41,7 @@ invariant-items_from-tokens l = record {
   same : (n : ℕ) → length l.fn.self.reader.rest < n → Reaches (items_by (items_at n) n (parser_state l.fn.self) l.fn.first) (items_of l.done) (parser_state l.self) l.sense;
   room : length l.self.reader.rest ≤ length l.fn.self.reader.rest;
   ready : IsReadyParser l.self;
+  entries : l.self.dictionary.pairs ≡ l.fn.self.dictionary.pairs;
 }
 
 abbrev pub decreases-items_from-tokens : goal.decreases-items_from-tokens
@@ -52,6 +53,7 @@ invariant-case_item-arms l = record {
       arms_at (items_at n) m (parser_state l.fn.self) ≡ behind_arms (arms_of l.arms) (arms_at (items_at n) (m - length (arms_of l.arms)) (parser_state l.self));
   room : length (arms_of l.arms) + length l.self.reader.rest ≤ length l.fn.self.reader.rest;
   ready : IsReadyParser l.self;
+  entries : l.self.dictionary.pairs ≡ l.fn.self.dictionary.pairs;
 }
 
 abbrev pub decreases-case_item-arms : goal.decreases-case_item-arms

@@ -1,4 +1,4 @@
-use Rattle.std.proofs.Common.{arith}
+use Rattle.std.proofs.Common.{arith, ◌∙◌}
 use Rattle.control_flow.specs.declared.refusal.SourceCause.TheVariants as cause
 use Rattle.control_flow.specs.ParseResult.{ParserState}
 use Rattle.control_flow.specs.Answers.{parser_state}
@@ -15,6 +15,7 @@ tokens-preserved c = record {
       (parser_state c.act.new.self) c.in-Ok-act.ensures.gives (omega (arith, c.in-Ok.ensures.shorter, c.act.ensures.same));
   room = omega (arith, c.tokens.invariant.room, c.in-Ok.ensures.shorter, c.act.ensures.same);
   ready = c.in-Ok-act.ensures.ready;
+  entries = c.act.ensures.entries ∙ c.host_token.ensures.entries ∙ c.tokens.invariant.entries;
 }
 
 pub returns-in-Err-act-clause-gives : goal.returns-in-Err-act-clause-gives
@@ -36,7 +37,7 @@ returns-in-Does-clause-gives c n h =
 pub returns-in-Quoted-clause-gives : goal.returns-in-Quoted-clause-gives
 returns-in-Quoted-clause-gives c n h =
     refused_by _ (parser_state c.tokens.self) (c.tokens.invariant.same n h) c.in-Ok.sense (parser_state c.host_token.new.self) c.in-Ok.ensures.gives _ c.in-Quoted.is c.quoted.result
-    (quoted_fails ParserState c.quoted.result cause.NotInDefinition (parser_state c.host_token.new.self) c.quoted.ensures)
+    (quoted_fails ParserState c.quoted.result cause.NotInDefinition (parser_state c.host_token.new.self) c.quoted.ensures.gives)
 
 pub returns-in-OutOfRange-clause-gives : goal.returns-in-OutOfRange-clause-gives
 returns-in-OutOfRange-clause-gives c n h =

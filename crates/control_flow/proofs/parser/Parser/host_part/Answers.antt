@@ -1,4 +1,4 @@
-use Rattle.std.proofs.Common.{arith, sym, ◌∙◌}
+use Rattle.std.proofs.Common.{arith, refl, sym, ◌∙◌}
 use Rattle.control_flow.specs.declared.refusal.SourceCause.TheVariants as cause
 use Rattle.control_flow.specs.HostParts.{HostPart}
 use Rattle.control_flow.specs.Answers.{parser_state}
@@ -7,7 +7,7 @@ use Rattle.control_flow.proofs.HostPartSteps.{part_started, refused_host, with_s
 use Rattle.control_flow.proofs.parser.Parser.host_part.Goals as goal
 
 pub tokens-init : goal.tokens-init
-tokens-init c = record { same = λ n h. part_started _ c.new-items.ensures.items n (parser_state c.args.self.now) h; room = omega arith; ready = c.requires }
+tokens-init c = record { same = λ n h. part_started _ c.new-items.ensures.items n (parser_state c.args.self.now) h; room = omega arith; ready = c.requires; entries = refl }
 
 pub returns-in-Err-clause-gives : goal.returns-in-Err-clause-gives
 returns-in-Err-clause-gives c n h = refused_host _ (c.tokens.items.items) (parser_state c.tokens.self) (c.tokens.invariant.same n h) c.in-Err.error c.in-Err.ensures.gives
@@ -22,6 +22,7 @@ tokens-preserved c = record {
       c.push.new.self.items c.in-Ok-push.ensures.items (sym c.may_be_part.ensures ∙ c.if-not-may_be_part.false) (omega (arith, c.in-Ok.ensures.shorter));
   room = omega (arith, c.tokens.invariant.room, c.in-Ok.ensures.shorter);
   ready = c.in-Ok.ensures.ready;
+  entries = c.host_token.ensures.entries ∙ c.tokens.invariant.entries;
 }
 
 pub returns-in-Ends-clause-gives : goal.returns-in-Ends-clause-gives
@@ -33,7 +34,7 @@ returns-in-Does-clause-gives c n h = ends_with_does _ (c.tokens.items.items) (pa
 pub returns-in-Quoted-clause-gives : goal.returns-in-Quoted-clause-gives
 returns-in-Quoted-clause-gives c n h =
     refused_by _ (c.tokens.items.items) (parser_state c.tokens.self) (c.tokens.invariant.same n h) c.in-Ok.sense (parser_state c.host_token.new.self) c.in-Ok.ensures.gives _ c.in-Quoted.is
-    c.quoted.result (quoted_fails HostPart c.quoted.result cause.NotInDefinition (parser_state c.host_token.new.self) c.quoted.ensures)
+    c.quoted.result (quoted_fails HostPart c.quoted.result cause.NotInDefinition (parser_state c.host_token.new.self) c.quoted.ensures.gives)
 
 pub returns-in-Closes-clause-gives : goal.returns-in-Closes-clause-gives
 returns-in-Closes-clause-gives c n h = rw c.refuse-in-Closes.ensures (with_sense _ (c.tokens.items.items) (parser_state c.tokens.self) (c.tokens.invariant.same n h) c.in-Ok.sense (parser_state c.host_token.new.self) c.in-Ok.ensures.gives _ c.in-Closes.is)

@@ -9,6 +9,7 @@ invariant-tokens l = record {
   same : (n : ℕ) → length l.fn.self.reader.rest < n → InHostPart (host_part_at n (parser_state l.fn.self)) l.items.items (parser_state l.self);
   room : length l.self.reader.rest ≤ length l.fn.self.reader.rest;
   ready : IsReadyParser l.self;
+  entries : l.self.dictionary.pairs ≡ l.fn.self.dictionary.pairs;
 }
 
 abbrev pub decreases-tokens : goal.decreases-tokens
