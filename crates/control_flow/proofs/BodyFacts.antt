@@ -1,5 +1,5 @@
 -- What holds of bodies and tokens where a definition more is read.
-use Rattle.std.proofs.Common.{◌≡◌, ℕ, suc, ◌+◌, ◌-◌, ◌≤◌, nat_lt, Bool, true, ◌&&◌, List, [], ◌∷◌, ◌++◌, length, refl, subst, arith, ltb-true}
+use Rattle.std.proofs.Common.{◌≡◌, ℕ, suc, ◌+◌, ◌≤◌, nat_lt, Bool, true, ◌&&◌, List, [], ◌∷◌, ◌++◌, length, refl, subst, arith, ltb-true}
 use Rattle.std.specs.List.{list_all}
 use Rattle.std.proofs.lemmas.Bool.{and_from, and_parts, lt-ltb}
 use Rattle.word_table.specs.declared.word.Word.{Word}
@@ -86,7 +86,8 @@ all_more P (b ∷ bs) body h k =
     and_from _ _ both.0 (all_more P bs body both.1 k)
 
 -- the calls of a definition more, at the end, are at most its number
-pub back_more : (bodies : List Nodes) (body : Nodes) (definition : ℕ) → calls_go_back definition bodies ≡ true → everywhere (has_id_below (suc (definition + length bodies))) body ≡ true → calls_go_back definition (bodies ++ body ∷ []) ≡ true
+pub back_more : (bodies : List Nodes) (body : Nodes) (definition : ℕ) → calls_go_back definition bodies ≡ true →
+    everywhere (has_id_below (suc (definition + length bodies))) body ≡ true → calls_go_back definition (bodies ++ body ∷ []) ≡ true
 back_more [] body definition h k =
     let own : suc (definition + 0) ≡ suc definition = omega arith in
     and_from _ _ (subst (λ n. everywhere (has_id_below n) body ≡ true) own k) refl

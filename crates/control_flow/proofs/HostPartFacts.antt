@@ -1,5 +1,5 @@
 -- What holds of a host part that is read.
-use Rattle.std.proofs.Common.{◌≡◌, ℕ, zero, suc, ◌<◌, Bool, true, false, length, arith}
+use Rattle.std.proofs.Common.{ℕ, zero, suc, ◌<◌, Bool, true, false, length, arith}
 use Rattle.host_state.specs.declared.word.HostItem.{HostItem}
 use Rattle.host_state.specs.Kept.{HostWordsKeep}
 use Rattle.control_flow.specs.declared.refusal.SourceCause.TheVariants as cause

@@ -53,7 +53,8 @@ base = refl
 -- ---- execution tokens
 
 executed : program_of_text (codes ": A 65 EMIT ; ' A CONSTANT TA : MAIN TA EXECUTE 0 EXECUTE ;") ≡
-    Fine (program_with (codes "A" ∷ codes "MAIN" ∷ []) ((Then (Literal 65) (Then (Plain Emit) Empty)) ∷ (Then (Literal 1) (Then (Plain Execute) (Then (Literal 0) (Then (Plain Execute) Empty)))) ∷ []) 1 16 (record first_host { tokens = ticked.Entry (record { number = 0; known = known.Definition 0 }) ∷ [] }))
+    Fine (program_with (codes "A" ∷ codes "MAIN" ∷ []) ((Then (Literal 65) (Then (Plain Emit) Empty)) ∷ (Then (Literal 1) (Then (Plain Execute) (Then (Literal 0) (Then (Plain Execute) Empty)))) ∷ []) 1 16
+    (record first_host { tokens = ticked.Entry (record { number = 0; known = known.Definition 0 }) ∷ [] }))
 unfolding items_at bracket_at host_part_at source_at
 executed = refl
 
@@ -73,7 +74,8 @@ ticked_execute = refl
 -- ---- defining words
 
 array : program_of_text (codes ": ARRAY CREATE CELLS ALLOT DOES> SWAP CELLS + ; 4 ARRAY SQ : MAIN 0 SQ ;") ≡
-    Fine (program_with (codes "ARRAY" ∷ codes "MAIN" ∷ []) ((Then (Plain Swap) (Then (Plain Cells) (Then (Plain Plus) Empty))) ∷ (Then (Literal 0) (Then (Child 0 8320) Empty)) ∷ []) 1 18 (record { stack = []; space = record { data_start = 8192; cells = 10 ∷ 8288 ∷ 8328 ∷ [] }; tokens = [] }))
+    Fine (program_with (codes "ARRAY" ∷ codes "MAIN" ∷ []) ((Then (Plain Swap) (Then (Plain Cells) (Then (Plain Plus) Empty))) ∷ (Then (Literal 0) (Then (Child 0 8320) Empty)) ∷ []) 1 18
+    (record { stack = []; space = record { data_start = 8192; cells = 10 ∷ 8288 ∷ 8328 ∷ [] }; tokens = [] }))
 unfolding items_at bracket_at host_part_at source_at
 array = refl
 

@@ -1,5 +1,5 @@
 -- What holds of a source so far, and of a definition more.
-use Rattle.std.proofs.Common.{◌≡◌, ℕ, zero, suc, ◌+◌, ◌-◌, ◌<◌, ◌≤◌, nat_lt, Bool, true, false, List, [], ◌∷◌, ◌++◌, length, Option, Some, None, refl, sym, ap, ◌∙◌, subst, arith, length-append, ltb-true}
+use Rattle.std.proofs.Common.{◌≡◌, ℕ, zero, suc, ◌+◌, ◌<◌, ◌≤◌, nat_lt, Bool, true, false, List, [], ◌∷◌, ◌++◌, length, Option, Some, None, refl, sym, ap, ◌∙◌, subst, arith, length-append, ltb-true}
 use Rattle.std.specs.Prelude.{slice_get}
 use Rattle.std.specs.List.{list_all}
 use Rattle.word_table.specs.Names.{word_named}
@@ -29,7 +29,7 @@ use Rattle.control_flow.specs.OutsideWords.{is_reserved_name, name_at, with_name
 use Rattle.control_flow.specs.SourceText.{Source, with_body, ended_by, with_defining, part_by, defining_at, definition_at}
 use Rattle.control_flow.specs.SourceLaw.{is_read}
 use Rattle.control_flow.proofs.Senses.{IsKnown, below_more}
-use Rattle.control_flow.proofs.Moves.{Good, good_then, good_weaker, good_is, weighs, outermost}
+use Rattle.control_flow.proofs.Moves.{Good, good_then, good_weaker, good_is, outermost}
 use Rattle.control_flow.proofs.HostFacts.{ticks, Knows, Bounded, knows_wider, Goes, Keeps, Passed}
 use Rattle.control_flow.proofs.HostPartFacts.{passed_then, PartRead, host_part_read, goes_does, keeps_does}
 use Rattle.control_flow.proofs.ItemFacts.{SpelledRead, spelled_read, ItemsRead, TokenRead, token_read, items_read, items_from_read}

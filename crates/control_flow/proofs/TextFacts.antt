@@ -1,5 +1,5 @@
 -- What holds of the program of a text.
-use Rattle.std.proofs.Common.{◌≡◌, ℕ, zero, suc, ◌+◌, ◌-◌, ◌<◌, List, [], length, Option, Some, None, refl, subst, arith}
+use Rattle.std.proofs.Common.{◌≡◌, ℕ, zero, suc, ◌+◌, ◌<◌, List, [], length, Option, Some, None, refl, subst, arith}
 use Rattle.std.specs.Prelude.{codes}
 use Rattle.console_ports.specs.DataSpace.{IsDataStart}
 use Rattle.forth_program.specs.Form.{IsProgram, has_id_below, may_stand, may_be_token}

@@ -11,7 +11,6 @@ use Rattle.host_state.specs.declared.entry.Entry.{Entry}
 use Rattle.host_state.specs.declared.entry.Known.{Known}
 use Rattle.host_state.specs.declared.entry.Known.TheVariants as known
 use Rattle.host_state.specs.declared.word.HostWord.{HostWord}
-use Rattle.host_state.specs.declared.word.HostItem.{HostItem}
 use Rattle.host_state.specs.declared.word.HostItem.TheVariants as item
 use Rattle.control_flow.specs.declared.outside_sense.OutsideSense.{OutsideSense}
 use Rattle.control_flow.specs.declared.outside_sense.OutsideSense.TheVariants.{Begins, Acts, NamesConstant, NamesVariable, NamesAddress, NamesChild, Ticks, Spells, Splits, Quoted, OutOfRange, Unknown, Forbidden}

@@ -1,10 +1,9 @@
 -- What words do outside definitions that read a name, or that say where data space begins (ANS Forth Core, and CODE-CELLS).
-use Rattle.std.specs.Prelude.{ℕ, ◌+◌, ◌-◌, nat_lt, Bool, true, false, List, [], ◌∷◌, ◌++◌, length, Option, Some, None, Result, Ok, Err}
+use Rattle.std.specs.Prelude.{ℕ, ◌-◌, nat_lt, Bool, true, false, List, [], ◌∷◌, ◌++◌, length, Option, Some, None, Result, Ok, Err}
 use Rattle.word_table.specs.declared.word.Word.{Word}
 use Rattle.word_table.specs.declared.word.Word.TheVariants.{Colon, Semicolon, Paren, Backslash, DotQuote, SQuote, AbortQuote}
 use Rattle.word_table.specs.Names.{word_named}
 use Rattle.dictionary_core.specs.Pairs.{pair}
-use Rattle.host_state.specs.declared.entry.Entry.{Entry}
 use Rattle.host_state.specs.declared.entry.Known.{Known}
 use Rattle.host_state.specs.declared.entry.Known.TheVariants as known
 use Rattle.host_state.specs.declared.entry.Ticked.{Ticked}

@@ -66,7 +66,8 @@ line_is : (place v : ℕ) (more : List ℕ) → definition place v ++ more ≡ 5
 line_is place v more = simp append_assoc
 
 -- behind a `:`
-colon_is : (at : ParserState) (more : List ℕ) → next_from at.count at.rest ≡ next_from at.count (58 ∷ 32 ∷ more) → newest_value at.entries (58 ∷ []) ≡ None → outside_at at ≡ Fine (record { sense = Some (outside_sense_by 10 (58 ∷ []) (word_named (58 ∷ []))); at = behind at (32 ∷ more) })
+colon_is : (at : ParserState) (more : List ℕ) → next_from at.count at.rest ≡ next_from at.count (58 ∷ 32 ∷ more) → newest_value at.entries (58 ∷ []) ≡ None →
+    outside_at at ≡ Fine (record { sense = Some (outside_sense_by 10 (58 ∷ []) (word_named (58 ∷ []))); at = behind at (32 ∷ more) })
 colon_is at more same none = ap (outside_of at) same ∙ ap (λ sense. Fine (record { sense = Some sense; at = behind at (32 ∷ more) })) begins
   where
     begins : outside_sense_in at.entries (base_at at) (58 ∷ []) ≡ outside_sense_by 10 (58 ∷ []) (word_named (58 ∷ []))
@@ -133,7 +134,12 @@ abbrev state_with : ℕ → ℕ → ℕ → List ℕ → ParserState
 state_with seed place definitions rest = record (beginning rest) { count = count_to place; weight = weight_to seed place; entries = entries_to place; definitions = definitions }
 
 abbrev source_with : ℕ → ℕ → ℕ → List ℕ → Source
-source_with seed place definitions rest = record (source_start rest) { at = state_with seed place definitions rest; names = names_to place; bodies = bodies_to seed place; before = elim place [ zero ↦ (source_start []).before | suc earlier ↦ before_by (source_start []).before false ] }
+source_with seed place definitions rest = record (source_start rest) {
+  at = state_with seed place definitions rest;
+  names = names_to place;
+  bodies = bodies_to seed place;
+  before = elim place [ zero ↦ (source_start []).before | suc earlier ↦ before_by (source_start []).before false ];
+}
 
 abbrev source_to : ℕ → ℕ → List ℕ → Source
 source_to seed place rest = source_with seed place place rest
@@ -175,7 +181,8 @@ module _ (next : NextIsComputed) (names : NameIsComputed) where
       let is : sense_in named.entries (base_at named) (decimal v) ≡ number_sense (Value v) =
       number_is_sense named (decimal v) v (number_not_found v place (below_range seed place) (omega arith)) (number_is_no_word v (below_range seed place)) refl (number_is v (below_range seed place)) in
       defined (suc (suc (suc n))) (source_to seed place rest) at named _ (made_name (place + 1)) (number_body v) (record { sense = sense_in named.entries (base_at named) (decimal v); at = first })
-      (colon_is (state_with seed place place rest) (made_name (place + 1) ++ number_text v more) (same ∙ ap (next_from (count_to place)) (line_is (place + 1) v more)) (unknown (state_with seed place place rest) (58 ∷ []) place refl (omega arith) refl))
+      (colon_is (state_with seed place place rest) (made_name (place + 1) ++ number_text v more) (same ∙ ap (next_from (count_to place)) (line_is (place + 1) v more))
+      (unknown (state_with seed place place rest) (58 ∷ []) place refl (omega arith) refl))
       (name_is next names at (made_name (place + 1)) (number_text v more) refl (name_token (place + 1) (omega arith)) refl)
       (definable_is (record { name = made_name (place + 1); at = named }) (name_is_no_word (place + 1) (omega arith)) (omega (arith, few)))
       (token_is next names named (decimal v) (32 ∷ (operation (v % 4) ++ (32 ∷ 59 ∷ 10 ∷ more))) refl (number_token v (below_range seed place)) refl)

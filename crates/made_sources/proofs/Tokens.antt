@@ -123,7 +123,8 @@ item_then n at seen token weight node many read stands light rest =
     ∙ ap (λ r. r >>= many_with node) rest
 
 -- the end of a definition, where no definition is named `;`
-pub items_end : (n : ℕ) (at seen : ParserState) → token_at at ≡ Fine (record { sense = sense_in at.entries (base_at at) (59 ∷ []); at = seen }) → newest_value at.entries (59 ∷ []) ≡ None → seen.nest ≡ [] → seen.weight + 1 ≤ most_weight seen →
+pub items_end : (n : ℕ) (at seen : ParserState) → token_at at ≡ Fine (record { sense = sense_in at.entries (base_at at) (59 ∷ []); at = seen }) →
+    newest_value at.entries (59 ∷ []) ≡ None → seen.nest ≡ [] → seen.weight + 1 ≤ most_weight seen →
     items_at (suc n) at ≡ Fine (record { nodes = Empty; ending = ending.Semicolon; at = record seen { nest = []; weight = seen.weight + 1 } })
 unfolding items_at
 items_end n at seen read none outside light =

@@ -65,7 +65,8 @@ pub(super) fn repeated(alloc: Global, pieces: &str) -> Result<String, Fail> {
     Ok(text)
 }
 
-fn run_limit(alloc: Global, line: &str) -> Result<(), Fail> {
+/// Runs a line of pieces.
+pub(super) fn run_limit(alloc: Global, line: &str) -> Result<(), Fail> {
     let mut rest = line;
     let source = repeated(alloc, field(&mut rest))?;
     let out = repeated(alloc, field(&mut rest))?;

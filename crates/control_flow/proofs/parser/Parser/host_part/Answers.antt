@@ -13,7 +13,10 @@ pub returns-in-Err-clause-gives : goal.returns-in-Err-clause-gives
 returns-in-Err-clause-gives c n h = refused_host _ (c.tokens.items.items) (parser_state c.tokens.self) (c.tokens.invariant.same n h) c.in-Err.error c.in-Err.ensures.gives
 
 pub returns-then-not-may_be_part-clause-gives : goal.returns-then-not-may_be_part-clause-gives
-returns-then-not-may_be_part-clause-gives c n h = rw c.refuse.ensures (part_forbidden _ (c.tokens.items.items) (parser_state c.tokens.self) (c.tokens.invariant.same n h) c.in-Ok.sense (parser_state c.host_token.new.self) c.in-Ok.ensures.gives c.in-Acts.item c.in-Acts.is (sym c.may_be_part.ensures ∙ c.if-not-may_be_part.true))
+returns-then-not-may_be_part-clause-gives c n h =
+    rw c.refuse.ensures
+    (part_forbidden _ (c.tokens.items.items) (parser_state c.tokens.self) (c.tokens.invariant.same n h) c.in-Ok.sense (parser_state c.host_token.new.self) c.in-Ok.ensures.gives c.in-Acts.item c.in-Acts.is
+    (sym c.may_be_part.ensures ∙ c.if-not-may_be_part.true))
 
 pub tokens-preserved : goal.tokens-preserved
 tokens-preserved c = record {
@@ -37,13 +40,21 @@ returns-in-Quoted-clause-gives c n h =
     c.quoted.result (quoted_fails HostPart c.quoted.result cause.NotInDefinition (parser_state c.host_token.new.self) c.quoted.ensures.gives)
 
 pub returns-in-Closes-clause-gives : goal.returns-in-Closes-clause-gives
-returns-in-Closes-clause-gives c n h = rw c.refuse-in-Closes.ensures (with_sense _ (c.tokens.items.items) (parser_state c.tokens.self) (c.tokens.invariant.same n h) c.in-Ok.sense (parser_state c.host_token.new.self) c.in-Ok.ensures.gives _ c.in-Closes.is)
+returns-in-Closes-clause-gives c n h =
+    rw c.refuse-in-Closes.ensures
+    (with_sense _ (c.tokens.items.items) (parser_state c.tokens.self) (c.tokens.invariant.same n h) c.in-Ok.sense (parser_state c.host_token.new.self) c.in-Ok.ensures.gives _ c.in-Closes.is)
 
 pub returns-in-OutOfRange-clause-gives : goal.returns-in-OutOfRange-clause-gives
-returns-in-OutOfRange-clause-gives c n h = rw c.refuse-in-OutOfRange.ensures (with_sense _ (c.tokens.items.items) (parser_state c.tokens.self) (c.tokens.invariant.same n h) c.in-Ok.sense (parser_state c.host_token.new.self) c.in-Ok.ensures.gives _ c.in-OutOfRange.is)
+returns-in-OutOfRange-clause-gives c n h =
+    rw c.refuse-in-OutOfRange.ensures
+    (with_sense _ (c.tokens.items.items) (parser_state c.tokens.self) (c.tokens.invariant.same n h) c.in-Ok.sense (parser_state c.host_token.new.self) c.in-Ok.ensures.gives _ c.in-OutOfRange.is)
 
 pub returns-in-Unknown-clause-gives : goal.returns-in-Unknown-clause-gives
-returns-in-Unknown-clause-gives c n h = rw c.refuse-in-Unknown.ensures (with_sense _ (c.tokens.items.items) (parser_state c.tokens.self) (c.tokens.invariant.same n h) c.in-Ok.sense (parser_state c.host_token.new.self) c.in-Ok.ensures.gives _ c.in-Unknown.is)
+returns-in-Unknown-clause-gives c n h =
+    rw c.refuse-in-Unknown.ensures
+    (with_sense _ (c.tokens.items.items) (parser_state c.tokens.self) (c.tokens.invariant.same n h) c.in-Ok.sense (parser_state c.host_token.new.self) c.in-Ok.ensures.gives _ c.in-Unknown.is)
 
 pub returns-in-Forbidden-clause-gives : goal.returns-in-Forbidden-clause-gives
-returns-in-Forbidden-clause-gives c n h = rw c.refuse-in-Forbidden.ensures (with_sense _ (c.tokens.items.items) (parser_state c.tokens.self) (c.tokens.invariant.same n h) c.in-Ok.sense (parser_state c.host_token.new.self) c.in-Ok.ensures.gives _ c.in-Forbidden.is)
+returns-in-Forbidden-clause-gives c n h =
+    rw c.refuse-in-Forbidden.ensures
+    (with_sense _ (c.tokens.items.items) (parser_state c.tokens.self) (c.tokens.invariant.same n h) c.in-Ok.sense (parser_state c.host_token.new.self) c.in-Ok.ensures.gives _ c.in-Forbidden.is)
