@@ -150,6 +150,7 @@ fn reads_a_program(rt: HostRuntime) -> Result<(), Fail> {
         b": A 65 EMIT ; : A A 66 EMIT ; : Main 2 0 DO A I CASE 1 OF LEAVE ENDOF ENDCASE LOOP ;";
     match read_program(rt.alloc(), text) {
         Ok(program) => {
+            assert_eq!(rt; program.def_count(), 3);
             assert_eq!(rt; program.name(program.main()), "Main");
             assert_eq!(rt; program.body(DefId(1)).list().len(), 3);
             assert_eq!(rt; program.space().len(), 128);
