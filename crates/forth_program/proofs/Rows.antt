@@ -2,7 +2,7 @@
 use Rattle.std.specs.Prelude.{ℕ, ◌+◌, ◌==◌, ◌&&◌, Bool, true, false, List, [], ◌∷◌, ◌++◌, take, slice_set, Option, Some, None}
 use Rattle.cell_math.specs.Bytes.{cells_of_bytes, filled}
 use Rattle.forth_program.specs.Tree.{Node, Nodes, Empty, Then}
-use Rattle.forth_program.specs.State.{Entry, Cell, Loop, Todo, State, Access, Stored, Took, End, Halted, InputEnded, Outside, Underflow, Unbalanced, Outcome, Goes, Ends}
+use Rattle.forth_program.specs.State.{Entry, Cell, Loop, Todo, State, Access, Stored, Took, End, Halted, InputEnded, Outside, Underflow, Unbalanced, Left, Outcome, Goes, Ends}
 use Rattle.forth_program.specs.Program.{SourceProgram}
 use Rattle.forth_program.specs.Step.{step}
 use Rattle.forth_program.specs.Run.{source_run, world_of, end_of}
@@ -40,6 +40,7 @@ end_code (Some InputEnded) = 2 ∷ []
 end_code (Some (Outside address)) = 3 ∷ address ∷ []
 end_code (Some Underflow) = 4 ∷ []
 end_code (Some Unbalanced) = 5 ∷ []
+end_code (Some (Left address)) = 6 ∷ address ∷ []
 
 -- an end leaves no cells and no entries to look at
 abbrev cells_after : Outcome → List ℕ

@@ -1,7 +1,7 @@
 -- What holds of each program.
 use Rattle.std.specs.Prelude.{◌≡◌, ℕ, suc, ◌-◌, ◌<◌, ◌≤◌, nat_lt, Bool, true, false, ◌&&◌, List, [], ◌∷◌, length, IsTrue}
 use Rattle.std.specs.List.{list_all}
-use Rattle.word_table.specs.declared.word.Word.TheVariants.{ToR, RFrom, RFetch, Index, OuterIndex, Unloop, Execute}
+use Rattle.word_table.specs.declared.word.Word.TheVariants.{ToR, RFrom, RFetch, Index, OuterIndex, Unloop, Execute, Go}
 use Rattle.word_table.specs.declared.word.Class.{Class}
 use Rattle.word_table.specs.declared.word.Class.TheVariants as class
 use Rattle.word_table.specs.Table.{entry_of}
@@ -57,11 +57,21 @@ may_stand (Plain Unloop) = true
 may_stand (Plain word) = is_code_class ((entry_of word).class)
 may_stand node = true
 
--- a token's word is inline or library, and not EXECUTE
+-- a token's word is inline or library, and neither EXECUTE nor GO
 abbrev pub may_be_token : Node → Bool
 may_be_token (Plain Execute) = false
+may_be_token (Plain Go) = false
 may_be_token (Plain word) = is_code_class ((entry_of word).class)
 may_be_token node = true
+
+-- an item that is not GO
+abbrev pub is_not_go : Node → Bool
+is_not_go (Plain Go) = false
+is_not_go node = true
+
+-- no body has GO: so it is with the programs of sources
+abbrev pub has_no_go : SourceProgram → Bool
+has_no_go p = list_all (everywhere is_not_go) p.bodies
 
 -- whether each LEAVE stands inside a DO or a ?DO, where these items stand inside one or not
 abbrev mutual

@@ -14,6 +14,7 @@ pub mod Price
 pub mod Cells
 pub mod Weight
 pub mod RunLaws
+pub mod Returns
 pub mod ItemTrees
 pub mod TreeLaws
 pub mod Parts

@@ -8,14 +8,14 @@ use Rattle.word_table.specs.declared.word.Word.TheVariants.{Dup, DropTop, Swap, 
 use Rattle.word_table.specs.declared.word.Word.TheVariants.{Plus, Minus, Negate, OnePlus, OneMinus, TwoStar, And, Or, Xor, Invert, LShift, RShift, TwoSlash, Abs, Max, Min}
 use Rattle.word_table.specs.declared.word.Word.TheVariants.{Equal, NotEqual, Less, Greater, ULess, ZeroEqual, ZeroLess, ZeroGreater, Within, SToD, Cells, CellPlus, Chars, CharPlus, Aligned, Blank, Base, Depth}
 use Rattle.word_table.specs.declared.word.Word.TheVariants.{Fetch, Store, CFetch, CStore, PlusStore, TwoFetch, TwoStore, Count, Here, Comma, CComma, Allot, Align, Decimal, Hex}
-use Rattle.word_table.specs.declared.word.Word.TheVariants.{Emit, Key, Cr, Space, Spaces, TypeOut, Fill, Move, Accept, ToNumber, AbortRun, Quit}
+use Rattle.word_table.specs.declared.word.Word.TheVariants.{Emit, Key, Cr, Space, Spaces, TypeOut, Fill, Move, Accept, ToNumber, AbortRun, Quit, Go}
 use Rattle.word_table.specs.declared.word.Word.TheVariants.{UMStar, MStar, Star, UMSlashMod, SMSlashRem, FMSlashMod, SlashMod, Slash, Mod, StarSlashMod, StarSlash}
 use Rattle.word_table.specs.declared.word.Word.TheVariants.{LessSharp, Hold, Sign, Sharp, SharpS, SharpGreater, Dot, UDot}
 use Rattle.cell_math.specs.Cell.{sum_of, difference_of, negated, signed, cell_of, flag, double, signed_double, double_of, low_cell, high_cell}
 use Rattle.cell_math.specs.Quotients.{floored}
 use Rattle.cell_math.specs.Divisions.{Division, unsigned_division, floored_division, symmetric_division}
 use Rattle.console_ports.specs.Ports.{even}
-use Rattle.forth_program.specs.State.{World, Reply, Gives, Stops, ◌▸◌, Halted, Underflow}
+use Rattle.forth_program.specs.State.{World, Reply, Gives, Stops, ◌▸◌, Halted, Underflow, Left}
 use Rattle.forth_program.specs.Access.{fetch, store, emit, fetch_byte, store_byte, base, here, grow_here, take_key}
 use Rattle.forth_program.specs.ByteWords.{type_out, emit_spaces, positive, fill, move, accept, number_from}
 use Rattle.forth_program.specs.PicturedOutput.{open_picture, hold, hold_sign, hold_digit, hold_all, picture, print_number}
@@ -152,5 +152,7 @@ meaning UDot (u ∷ c) w = print_number u false w ▸ λ _. Gives c
 -- ---- ends: what ABORT and QUIT empty and leave is the run itself
 meaning AbortRun c w = Stops (Halted 1) w
 meaning Quit c w = Stops (Halted 3) w
+-- GO leaves the source for the code at an address
+meaning Go (a ∷ c) w = Stops (Left a) w
 -- what is left finds too few cells
 meaning word c w = Stops Underflow w

@@ -1,7 +1,7 @@
 -- Runs of at most k word steps.
 use Rattle.std.specs.Prelude.{ℕ, zero, suc, ◌-◌, ◌/◌, Bool, true, false, List, [], Option, Some, None}
 use Rattle.cell_math.specs.Bytes.{cells_of_bytes, filled}
-use Rattle.forth_program.specs.State.{World, State, End, Underflow, Unbalanced, Outcome, Goes, Ends}
+use Rattle.forth_program.specs.State.{World, State, End, Underflow, Unbalanced, Left, Outcome, Goes, Ends}
 use Rattle.forth_program.specs.Program.{SourceProgram, body_of}
 use Rattle.forth_program.specs.Step.{before, step}
 
@@ -42,6 +42,12 @@ world_of (Ends end world) = world
 abbrev pub end_of : Outcome → Option End
 end_of (Goes s) = None
 end_of (Ends end world) = Some end
+
+-- a run that GO has led out of the source
+abbrev pub leaves : Outcome → Bool
+leaves (Goes s) = false
+leaves (Ends (Left address) world) = true
+leaves (Ends end world) = false
 
 -- a run that has ended because too few cells or other entries were found
 abbrev pub lacks : Outcome → Bool

@@ -1,8 +1,10 @@
 -- What holds of all runs.
-use Rattle.std.specs.Prelude.{◌≡◌, ℕ, ◌+◌, List, ◌++◌, length}
+use Rattle.std.specs.Prelude.{◌≡◌, ℕ, ◌+◌, Bool, true, false, List, ◌++◌, length}
+use Rattle.std.specs.List.{list_all}
 use Rattle.forth_program.specs.State.{Access, World, State, End, Ends}
 use Rattle.forth_program.specs.Program.{SourceProgram}
-use Rattle.forth_program.specs.Run.{and_then, steps, world_of}
+use Rattle.forth_program.specs.Run.{and_then, steps, source_run, world_of, leaves}
+use Rattle.forth_program.specs.Form.{has_no_go, may_be_token}
 use Rattle.forth_program.specs.Price.{spent}
 
 -- a + b steps are a steps and then b more
@@ -29,3 +31,7 @@ pub record IsLater (old new : World) : Type 0 where
 -- every run comes to a later world
 abbrev pub WorldsGrow : Type 0
 WorldsGrow = (p : SourceProgram) (k : ℕ) (s : State) → IsLater s.world (world_of (steps p k s))
+
+-- a run of a program without GO is never led out of the source
+abbrev pub ProgramsStay : Type 0
+ProgramsStay = (p : SourceProgram) (input : List ℕ) (k : ℕ) → has_no_go p ≡ true → list_all may_be_token p.tokens ≡ true → leaves (source_run p input k) ≡ false

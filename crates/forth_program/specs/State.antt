@@ -64,6 +64,8 @@ pub data End : Type 0 where
   Underflow : End
   -- a word found other return entries than it needs, or a body ended with entries left
   Unbalanced : End
+  -- GO has called the code at an address, which is not the source's
+  Left : (address : ℕ) → End
 
 -- where something leads: to a value and the world after it, or to the end of the run
 pub data Reply (A : Type 0) : Type 0 where

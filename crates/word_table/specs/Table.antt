@@ -6,7 +6,7 @@ use Rattle.word_table.specs.declared.word.Word.TheVariants.{Less, Greater, ULess
 use Rattle.word_table.specs.declared.word.Word.TheVariants.{Here, Decimal, Depth, AbortRun, Quit, ToR, RFrom, RFetch, Index, OuterIndex, Unloop, QDup, TwoSwap, TwoOver, Abs, Max, Min, TwoSlash, CFetch}
 use Rattle.word_table.specs.declared.word.Word.TheVariants.{CStore, PlusStore, TwoFetch, TwoStore, Count, Comma, CComma, Allot, Align, UMStar, MStar, Star, UMSlashMod, SMSlashRem, FMSlashMod, SlashMod}
 use Rattle.word_table.specs.declared.word.Word.TheVariants.{Slash, Mod, StarSlashMod, StarSlash, LessSharp, Hold, Sign, Sharp, SharpS, SharpGreater, Dot, UDot, TypeOut, Spaces, Fill, Move, Accept}
-use Rattle.word_table.specs.declared.word.Word.TheVariants.{ToNumber, Execute, SQuote, DotQuote, AbortQuote, If, While, Until, Else, Repeat, Then, Begin, Do, Loop, PlusLoop, Leave, Exit, Semicolon}
+use Rattle.word_table.specs.declared.word.Word.TheVariants.{ToNumber, Execute, Go, SQuote, DotQuote, AbortQuote, If, While, Until, Else, Repeat, Then, Begin, Do, Loop, PlusLoop, Leave, Exit, Semicolon}
 use Rattle.word_table.specs.declared.word.Word.TheVariants.{Recurse, BracketTick, BracketChar, Literal, LeftBracket, RightBracket, Paren, Backslash, Colon, Tick, Char, Constant, Variable, Create, Does}
 use Rattle.word_table.specs.declared.word.Word.TheVariants.{ToBody, QDo, Again, Case, Of, EndOf, EndCase, Nip, Tuck, ZeroGreater, NotEqual, Within, Hex, CodeCells}
 use Rattle.word_table.specs.declared.word.WordEntry.{WordEntry}
@@ -116,6 +116,7 @@ row Move = library "MOVE" 3 (change 3 0) 10 8 80 160
 row Accept = library "ACCEPT" 2 (change 2 1) 8 8 100 120
 row ToNumber = library ">NUMBER" 4 (change 4 4) 12 10 100 3200
 row Execute = library "EXECUTE" 1 None 4 3 30 0
+row Go = library "GO" 1 (change 1 0) 24 18 3 0
 -- ---- structure words: taken, left, peak, back, price, price for each of the count, weight
 row SQuote = structure "S\"" 0 2 2 0 2 0 2
 row DotQuote = structure ".\"" 0 0 10 7 42 80 3

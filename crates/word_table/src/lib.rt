@@ -8,6 +8,6 @@ mod row;
 mod table;
 mod word;
 
-pub use names::{each_is_found, word_of};
+pub use names::{each_is_found, word_in, word_of};
 pub use table::{entry, plain_cells};
-pub use word::{Class, Word, WordEntry};
+pub use word::{Class, Vocabulary, Word, WordEntry};

@@ -1,12 +1,13 @@
 // Words by their names.
-ghost use Rattle.std.specs.Prelude.{◌≡◌, IsNone, IfSome, IsTrue, ◌↔◌};
+ghost use Rattle.std.specs.Prelude.{◌≡◌, false, IsNone, IfSome, IsTrue, ◌↔◌};
 ghost use Rattle.std.specs.Str.{str_to_ascii_lowercase};
 ghost use Rattle.word_table.specs.declared.word.Word.{Word};
-ghost use Rattle.word_table.specs.Names.{name_of, word_named, first_named, is_named, EachIsFound};
+ghost use Rattle.word_table.specs.Names.{name_of, word_named, word_in, first_named, is_go, is_named, EachIsFound, SourcesLackGo};
 
 use crate::table::row;
-use crate::word::Word;
+use crate::word::{Vocabulary, Word};
 
+// The words of a source.
 const WORDS: [Word; 138] = [
     Word::Dup,
     Word::DropTop,
@@ -148,13 +149,29 @@ const WORDS: [Word; 138] = [
     Word::CodeCells,
 ];
 
-/// The word of this name, letters in either case. It is None exactly where the table has no word of the name.
+/// The word of this name in a source, letters in either case. It is None exactly where no word but `GO` has the name.
 pub fn word_of(name: &str) -> Option<Word>
     ensures value { result ≡ word_named name.now }
     ensures some { IfSome result (λ word. IsTrue (is_named name.now word)) }
-    ensures none { IsNone result ↔ ((word : Word) → ¬ IsTrue (is_named name.now word)) }
+    ensures none { IsNone result ↔ ((word : Word) → is_go word ≡ false → ¬ IsTrue (is_named name.now word)) }
 {
     first_of(name, &WORDS)
+}
+
+/// The word of this name in a vocabulary, letters in either case.
+pub fn word_in(vocabulary: Vocabulary, name: &str) -> Option<Word>
+    ensures { result ≡ word_in vocabulary name.now }
+{
+    match vocabulary {
+        Vocabulary::Source => first_of(name, &WORDS),
+        Vocabulary::Kernel => {
+            if has_name(Word::Go, name) {
+                Some(Word::Go)
+            } else {
+                first_of(name, &WORDS)
+            }
+        }
+    }
 }
 
 /// The first of these words that has the name.
@@ -176,9 +193,10 @@ fn has_name(word: Word, name: &str) -> bool
     name.eq_ignore_ascii_case(name_text(word))
 }
 
-/// Each word is the one of its own name.
+/// In a kernel each word is the one of its own name, and in a source none is `GO`.
 pub fn each_is_found()
-    ensures { EachIsFound }
+    ensures found { EachIsFound }
+    ensures sources { SourcesLackGo }
 {}
 
 /// The name of a word, letters in upper case.

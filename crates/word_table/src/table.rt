@@ -125,6 +125,7 @@ pub(crate) fn row(word: Word) -> Row
         Word::Accept => library("ACCEPT", 2, Some((-1, -1)), 8, 8, 100, 120),
         Word::ToNumber => library(">NUMBER", 4, Some((0, 0)), 12, 10, 100, 3200),
         Word::Execute => library("EXECUTE", 1, None, 4, 3, 30, 0),
+        Word::Go => library("GO", 1, Some((-1, -1)), 24, 18, 3, 0),
         // structure words: taken, left, peak, back, price, price for each of the count, weight
         Word::SQuote => structure("S\"", 0, 2, 2, 0, 2, 0, 2),
         Word::DotQuote => structure(".\"", 0, 0, 10, 7, 42, 80, 3),

@@ -1,8 +1,8 @@
 // Words, their classes, and what the table says of each.
 
 /// A word of the source: the 124 words of the Core word set of ANS Forth (X3.215-1994) that a source text may
-/// use, 13 words of its Core extension word set, and `CODE-CELLS`, a word of this compiler. `DropTop` is `DROP`,
-/// `AbortRun` is `ABORT`, and `Index` and `OuterIndex` are `I` and `J`.
+/// use, 13 words of its Core extension word set, `CODE-CELLS`, a word of this compiler, and `GO`, a word of kernels alone.
+/// `DropTop` is `DROP`, `AbortRun` is `ABORT`, and `Index` and `OuterIndex` are `I` and `J`.
 #[derive(Clone, Copy, Debug, PartialEq, Eq)]
 pub enum Word {
     // The data stack (`DUP DROP SWAP OVER ROT 2DUP 2DROP`).
@@ -120,6 +120,8 @@ pub enum Word {
     ToNumber,
     // `EXECUTE`.
     Execute,
+    // `GO`, which only the text of an interactive Forth's kernel may use: it calls the code at a byte address.
+    Go,
     // The string words `S"`, `."` and `ABORT"`.
     SQuote,
     DotQuote,
@@ -166,6 +168,15 @@ pub enum Word {
     ToBody,
     // `CODE-CELLS`: how many cells of memory are for code, below data space.
     CodeCells,
+}
+
+/// Which words a text may use.
+#[derive(Clone, Copy, Debug, PartialEq, Eq)]
+pub enum Vocabulary {
+    /// Those of every source.
+    Source,
+    /// Those, and `GO`: the words of the text of an interactive Forth's kernel.
+    Kernel,
 }
 
 /// How a word is compiled.
