@@ -5,7 +5,7 @@ use Rattle.j1_table.specs.Instruction.{decoded}
 use Rattle.word_table.specs.declared.word.Word.{Word}
 use Rattle.word_table.specs.declared.word.Word.TheVariants.{Base, Here, Decimal, Hex, RFrom, RFetch, Index, OuterIndex, Unloop}
 use Rattle.word_table.specs.Table.{entry_of, cells_of, cells_from}
-use Rattle.forth_program.specs.State.{Entry, Cell, Loop, Halted, InputEnded, Outside, Underflow, Unbalanced, Outcome, Goes, Ends}
+use Rattle.forth_program.specs.State.{Entry, Cell, Loop, Halted, InputEnded, Outside, Underflow, Unbalanced, Left, Outcome, Goes, Ends}
 use Rattle.forth_program.specs.Step.{word_step}
 use Rattle.j1_simulator.specs.OpenMachine.{open_storage}
 use Rattle.j1_simulator.specs.Run.{run}
@@ -13,22 +13,22 @@ use Rattle.word_laws.specs.Rings.{BeforeEach}
 use Rattle.word_laws.specs.Bounds.{StaysWithin}
 use Rattle.word_laws.specs.Standing.{return_places, standing_as, HasCome, StandIn}
 use Rattle.word_laws.specs.Words.{stands_plain, finds_entries, return_need, WordsDoTheirMeaning, WordsKeepTheirBounds, WordsEndWithinBounds}
-use Rattle.forth_program.specs.Run.{lacks}
 use Rattle.word_laws.proofs.Rows.{instructions_of, instructions_are, HasAll, when}
 use Rattle.word_laws.proofs.Walk.{word_stays}
 use Rattle.word_laws.proofs.WordWalks.{words_stay, ends_stay}
 use Rattle.word_laws.proofs.WordRows.{word_row, Row}
-use Rattle.word_laws.proofs.Needs.{finds}
+use Rattle.word_laws.proofs.Needs.{fails, finds}
 use Rattle.word_laws.proofs.CellRows.{MayEnd, has_all, row_comes, row_stays, row_ends, within_widens, each_widens}
 
--- an end for another cause than a lack
-may_end : (x : Outcome) → lacks x ≡ false → MayEnd x
+-- an end that the machine has
+may_end : (x : Outcome) → fails x ≡ false → MayEnd x
 may_end (Goes s) e = tt
 may_end (Ends (Halted status) world) e = (_, refl)
 may_end (Ends InputEnded world) e = (_, refl)
 may_end (Ends (Outside address) world) e = (_, refl)
 may_end (Ends Underflow world) e = let no : ⊥ = cc in absurd no
 may_end (Ends Unbalanced world) e = let no : ⊥ = cc in absurd no
+may_end (Ends (Left address) world) e = let no : ⊥ = cc in absurd no
 
 -- entries that are found have their places
 return_places_found : (word : Word) (es : List Entry) (base : List (Option ℕ)) → finds_entries word es ≡ true → return_need word ≤ length (return_places es base)
@@ -82,7 +82,7 @@ words_do_their_meaning p word m next s r =
     (when (stands_plain word) (Row p s.work s.callers s.world m.code r.code_size m.returns m.pc m.data_above m.return_above (pos (length s.cells)) (pos (length (return_places s.entries m.returns))) word s.cells s.entries) r.plain
     (word_row p s.work s.callers s.world m.code r.code_size m.returns m.pc m.data_above m.return_above (pos (length s.cells)) (pos (length (return_places s.entries m.returns))) word s.cells s.entries refl r.cells r.entries r.applies))
     (may_end (word_step p word s.cells s.entries s)
-    (when (stands_plain word) (lacks (word_step p word s.cells s.entries s) ≡ false) r.plain (finds p s word s.cells s.entries r.need r.finds))))
+    (when (stands_plain word) (fails (word_step p word s.cells s.entries s) ≡ false) r.plain (finds p s word s.cells s.entries r.need r.finds))))
 
 pub words_keep_their_bounds : WordsKeepTheirBounds
 words_keep_their_bounds word m next s r =

@@ -10,7 +10,7 @@ use Rattle.word_table.specs.declared.word.Word.TheVariants.{Minus, Negate, OnePl
 use Rattle.word_table.specs.declared.word.Word.TheVariants.{Greater, ULess, ZeroEqual, ZeroLess, SToD}
 use Rattle.word_table.specs.declared.word.Word.TheVariants.{Cells, CellPlus, Chars, CharPlus, Aligned, Fetch, Store, Emit, Key, Blank, Cr, Space, Base, Here, Decimal, Depth, AbortRun, Quit, ToR, RFrom, RFetch, Index, OuterIndex, Unloop}
 use Rattle.word_table.specs.Table.{entry_of}
-use Rattle.forth_program.specs.State.{Entry, Cell, Loop, World, State, Gives, ◌▸◌}
+use Rattle.forth_program.specs.State.{Entry, Cell, Loop, World, State, Halted, InputEnded, Outside, Underflow, Unbalanced, Left, Outcome, Goes, Ends, Gives, ◌▸◌}
 use Rattle.forth_program.specs.Access.{taken, fetch_by, store_by}
 use Rattle.forth_program.specs.Program.{SourceProgram}
 use Rattle.forth_program.specs.Step.{word_step, on_cells}
@@ -44,79 +44,96 @@ under_three : (P : List ℕ → Type 0) → P [] → ((x : ℕ) → P (x ∷ [])
 under_three P a b d [] n = a
 under_three P a b d (y ∷ c) n = under_two (λ c. P (y ∷ c)) (b y) (d y) c (omega arith)
 
--- an access lacks nothing
-taken_lacks : (i : List ℕ) (w : World) (f : ℕ → List ℕ) (s : State) → lacks (on_cells (taken i w ▸ λ v. Gives (f v)) s) ≡ false
-taken_lacks [] w f s = refl
-taken_lacks (byte ∷ i) w f s = refl
+-- an end that the machine does not have: a lack, or an address that GO leads to
+abbrev pub fails : Outcome → Bool
+fails (Goes s) = false
+fails (Ends Underflow world) = true
+fails (Ends Unbalanced world) = true
+fails (Ends (Left address) world) = true
+fails (Ends end world) = false
 
-fetch_lacks : (x : Met) (w : World) (f : ℕ → List ℕ) (s : State) → lacks (on_cells (fetch_by w x ▸ λ v. Gives (f v)) s) ≡ false
-fetch_lacks (met.Data i) w f s = refl
-fetch_lacks met.Key w f s = taken_lacks w.input w f s
-fetch_lacks (met.Outside a) w f s = refl
-fetch_lacks met.Print w f s = refl
-fetch_lacks met.Halt w f s = refl
+lacks_no_more : (x : Outcome) → fails x ≡ false → lacks x ≡ false
+lacks_no_more (Goes s) e = refl
+lacks_no_more (Ends (Halted status) world) e = refl
+lacks_no_more (Ends InputEnded world) e = refl
+lacks_no_more (Ends (Outside address) world) e = refl
+lacks_no_more (Ends Underflow world) e = e
+lacks_no_more (Ends Unbalanced world) e = e
+lacks_no_more (Ends (Left address) world) e = refl
 
-store_lacks : (x : Met) (w : World) (v : ℕ) (c : List ℕ) (s : State) → lacks (on_cells (store_by w v x ▸ λ _. Gives c) s) ≡ false
-store_lacks (met.Data i) w v c s = refl
-store_lacks met.Print w v c s = refl
-store_lacks met.Halt w v c s = refl
-store_lacks (met.Outside a) w v c s = refl
-store_lacks met.Key w v c s = refl
+-- an access has an end of the machine, if it has one
+taken_fails : (i : List ℕ) (w : World) (f : ℕ → List ℕ) (s : State) → fails (on_cells (taken i w ▸ λ v. Gives (f v)) s) ≡ false
+taken_fails [] w f s = refl
+taken_fails (byte ∷ i) w f s = refl
+
+fetch_fails : (x : Met) (w : World) (f : ℕ → List ℕ) (s : State) → fails (on_cells (fetch_by w x ▸ λ v. Gives (f v)) s) ≡ false
+fetch_fails (met.Data i) w f s = refl
+fetch_fails met.Key w f s = taken_fails w.input w f s
+fetch_fails (met.Outside a) w f s = refl
+fetch_fails met.Print w f s = refl
+fetch_fails met.Halt w f s = refl
+
+store_fails : (x : Met) (w : World) (v : ℕ) (c : List ℕ) (s : State) → fails (on_cells (store_by w v x ▸ λ _. Gives c) s) ≡ false
+store_fails (met.Data i) w v c s = refl
+store_fails met.Print w v c s = refl
+store_fails met.Halt w v c s = refl
+store_fails (met.Outside a) w v c s = refl
+store_fails met.Key w v c s = refl
 
 module _ (p : SourceProgram) (s : State) where
   -- where the need is met
-  pub finds : (word : Word) (c : List ℕ) (es : List Entry) → (entry_of word).need ≤ length c → finds_entries word es ≡ true → When (stands_plain word) (lacks (word_step p word c es s) ≡ false)
-  finds Dup c es n e = with_one (λ c. lacks (word_step p Dup c es s) ≡ false) (λ x c. refl) c n
-  finds DropTop c es n e = with_one (λ c. lacks (word_step p DropTop c es s) ≡ false) (λ x c. refl) c n
-  finds Swap c es n e = with_two (λ c. lacks (word_step p Swap c es s) ≡ false) (λ y x c. refl) c n
-  finds Over c es n e = with_two (λ c. lacks (word_step p Over c es s) ≡ false) (λ y x c. refl) c n
-  finds Rot c es n e = with_three (λ c. lacks (word_step p Rot c es s) ≡ false) (λ z y x c. refl) c n
-  finds TwoDup c es n e = with_two (λ c. lacks (word_step p TwoDup c es s) ≡ false) (λ y x c. refl) c n
-  finds TwoDrop c es n e = with_two (λ c. lacks (word_step p TwoDrop c es s) ≡ false) (λ y x c. refl) c n
-  finds Nip c es n e = with_two (λ c. lacks (word_step p Nip c es s) ≡ false) (λ y x c. refl) c n
-  finds Tuck c es n e = with_two (λ c. lacks (word_step p Tuck c es s) ≡ false) (λ y x c. refl) c n
-  finds Plus c es n e = with_two (λ c. lacks (word_step p Plus c es s) ≡ false) (λ y x c. refl) c n
-  finds Minus c es n e = with_two (λ c. lacks (word_step p Minus c es s) ≡ false) (λ y x c. refl) c n
-  finds Negate c es n e = with_one (λ c. lacks (word_step p Negate c es s) ≡ false) (λ x c. refl) c n
-  finds OnePlus c es n e = with_one (λ c. lacks (word_step p OnePlus c es s) ≡ false) (λ x c. refl) c n
-  finds OneMinus c es n e = with_one (λ c. lacks (word_step p OneMinus c es s) ≡ false) (λ x c. refl) c n
-  finds TwoStar c es n e = with_one (λ c. lacks (word_step p TwoStar c es s) ≡ false) (λ x c. refl) c n
-  finds And c es n e = with_two (λ c. lacks (word_step p And c es s) ≡ false) (λ y x c. refl) c n
-  finds Or c es n e = with_two (λ c. lacks (word_step p Or c es s) ≡ false) (λ y x c. refl) c n
-  finds Xor c es n e = with_two (λ c. lacks (word_step p Xor c es s) ≡ false) (λ y x c. refl) c n
-  finds Invert c es n e = with_one (λ c. lacks (word_step p Invert c es s) ≡ false) (λ x c. refl) c n
-  finds LShift c es n e = with_two (λ c. lacks (word_step p LShift c es s) ≡ false) (λ y x c. refl) c n
-  finds RShift c es n e = with_two (λ c. lacks (word_step p RShift c es s) ≡ false) (λ y x c. refl) c n
-  finds Equal c es n e = with_two (λ c. lacks (word_step p Equal c es s) ≡ false) (λ y x c. refl) c n
-  finds Less c es n e = with_two (λ c. lacks (word_step p Less c es s) ≡ false) (λ y x c. refl) c n
-  finds Greater c es n e = with_two (λ c. lacks (word_step p Greater c es s) ≡ false) (λ y x c. refl) c n
-  finds ULess c es n e = with_two (λ c. lacks (word_step p ULess c es s) ≡ false) (λ y x c. refl) c n
-  finds ZeroEqual c es n e = with_one (λ c. lacks (word_step p ZeroEqual c es s) ≡ false) (λ x c. refl) c n
-  finds ZeroLess c es n e = with_one (λ c. lacks (word_step p ZeroLess c es s) ≡ false) (λ x c. refl) c n
-  finds SToD c es n e = with_one (λ c. lacks (word_step p SToD c es s) ≡ false) (λ x c. refl) c n
-  finds ZeroGreater c es n e = with_one (λ c. lacks (word_step p ZeroGreater c es s) ≡ false) (λ x c. refl) c n
-  finds NotEqual c es n e = with_two (λ c. lacks (word_step p NotEqual c es s) ≡ false) (λ y x c. refl) c n
-  finds Within c es n e = with_three (λ c. lacks (word_step p Within c es s) ≡ false) (λ z y x c. refl) c n
-  finds Cells c es n e = with_one (λ c. lacks (word_step p Cells c es s) ≡ false) (λ x c. refl) c n
-  finds CellPlus c es n e = with_one (λ c. lacks (word_step p CellPlus c es s) ≡ false) (λ x c. refl) c n
-  finds Chars c es n e = with_one (λ c. lacks (word_step p Chars c es s) ≡ false) (λ x c. refl) c n
-  finds CharPlus c es n e = with_one (λ c. lacks (word_step p CharPlus c es s) ≡ false) (λ x c. refl) c n
-  finds Aligned c es n e = with_one (λ c. lacks (word_step p Aligned c es s) ≡ false) (λ x c. refl) c n
-  finds Fetch c es n e = with_one (λ c. lacks (word_step p Fetch c es s) ≡ false) (λ a c. fetch_lacks (access_at s.world.data_start false a) s.world (λ v. v ∷ c) s) c n
-  finds Store c es n e = with_two (λ c. lacks (word_step p Store c es s) ≡ false) (λ a x c. store_lacks (access_at s.world.data_start true a) s.world x c s) c n
-  finds Emit c es n e = with_one (λ c. lacks (word_step p Emit c es s) ≡ false) (λ x c. refl) c n
-  finds Key c es n e = fetch_lacks (access_at s.world.data_start false 0x4002) s.world (λ v. v ∷ c) s
+  pub finds : (word : Word) (c : List ℕ) (es : List Entry) → (entry_of word).need ≤ length c → finds_entries word es ≡ true → When (stands_plain word) (fails (word_step p word c es s) ≡ false)
+  finds Dup c es n e = with_one (λ c. fails (word_step p Dup c es s) ≡ false) (λ x c. refl) c n
+  finds DropTop c es n e = with_one (λ c. fails (word_step p DropTop c es s) ≡ false) (λ x c. refl) c n
+  finds Swap c es n e = with_two (λ c. fails (word_step p Swap c es s) ≡ false) (λ y x c. refl) c n
+  finds Over c es n e = with_two (λ c. fails (word_step p Over c es s) ≡ false) (λ y x c. refl) c n
+  finds Rot c es n e = with_three (λ c. fails (word_step p Rot c es s) ≡ false) (λ z y x c. refl) c n
+  finds TwoDup c es n e = with_two (λ c. fails (word_step p TwoDup c es s) ≡ false) (λ y x c. refl) c n
+  finds TwoDrop c es n e = with_two (λ c. fails (word_step p TwoDrop c es s) ≡ false) (λ y x c. refl) c n
+  finds Nip c es n e = with_two (λ c. fails (word_step p Nip c es s) ≡ false) (λ y x c. refl) c n
+  finds Tuck c es n e = with_two (λ c. fails (word_step p Tuck c es s) ≡ false) (λ y x c. refl) c n
+  finds Plus c es n e = with_two (λ c. fails (word_step p Plus c es s) ≡ false) (λ y x c. refl) c n
+  finds Minus c es n e = with_two (λ c. fails (word_step p Minus c es s) ≡ false) (λ y x c. refl) c n
+  finds Negate c es n e = with_one (λ c. fails (word_step p Negate c es s) ≡ false) (λ x c. refl) c n
+  finds OnePlus c es n e = with_one (λ c. fails (word_step p OnePlus c es s) ≡ false) (λ x c. refl) c n
+  finds OneMinus c es n e = with_one (λ c. fails (word_step p OneMinus c es s) ≡ false) (λ x c. refl) c n
+  finds TwoStar c es n e = with_one (λ c. fails (word_step p TwoStar c es s) ≡ false) (λ x c. refl) c n
+  finds And c es n e = with_two (λ c. fails (word_step p And c es s) ≡ false) (λ y x c. refl) c n
+  finds Or c es n e = with_two (λ c. fails (word_step p Or c es s) ≡ false) (λ y x c. refl) c n
+  finds Xor c es n e = with_two (λ c. fails (word_step p Xor c es s) ≡ false) (λ y x c. refl) c n
+  finds Invert c es n e = with_one (λ c. fails (word_step p Invert c es s) ≡ false) (λ x c. refl) c n
+  finds LShift c es n e = with_two (λ c. fails (word_step p LShift c es s) ≡ false) (λ y x c. refl) c n
+  finds RShift c es n e = with_two (λ c. fails (word_step p RShift c es s) ≡ false) (λ y x c. refl) c n
+  finds Equal c es n e = with_two (λ c. fails (word_step p Equal c es s) ≡ false) (λ y x c. refl) c n
+  finds Less c es n e = with_two (λ c. fails (word_step p Less c es s) ≡ false) (λ y x c. refl) c n
+  finds Greater c es n e = with_two (λ c. fails (word_step p Greater c es s) ≡ false) (λ y x c. refl) c n
+  finds ULess c es n e = with_two (λ c. fails (word_step p ULess c es s) ≡ false) (λ y x c. refl) c n
+  finds ZeroEqual c es n e = with_one (λ c. fails (word_step p ZeroEqual c es s) ≡ false) (λ x c. refl) c n
+  finds ZeroLess c es n e = with_one (λ c. fails (word_step p ZeroLess c es s) ≡ false) (λ x c. refl) c n
+  finds SToD c es n e = with_one (λ c. fails (word_step p SToD c es s) ≡ false) (λ x c. refl) c n
+  finds ZeroGreater c es n e = with_one (λ c. fails (word_step p ZeroGreater c es s) ≡ false) (λ x c. refl) c n
+  finds NotEqual c es n e = with_two (λ c. fails (word_step p NotEqual c es s) ≡ false) (λ y x c. refl) c n
+  finds Within c es n e = with_three (λ c. fails (word_step p Within c es s) ≡ false) (λ z y x c. refl) c n
+  finds Cells c es n e = with_one (λ c. fails (word_step p Cells c es s) ≡ false) (λ x c. refl) c n
+  finds CellPlus c es n e = with_one (λ c. fails (word_step p CellPlus c es s) ≡ false) (λ x c. refl) c n
+  finds Chars c es n e = with_one (λ c. fails (word_step p Chars c es s) ≡ false) (λ x c. refl) c n
+  finds CharPlus c es n e = with_one (λ c. fails (word_step p CharPlus c es s) ≡ false) (λ x c. refl) c n
+  finds Aligned c es n e = with_one (λ c. fails (word_step p Aligned c es s) ≡ false) (λ x c. refl) c n
+  finds Fetch c es n e = with_one (λ c. fails (word_step p Fetch c es s) ≡ false) (λ a c. fetch_fails (access_at s.world.data_start false a) s.world (λ v. v ∷ c) s) c n
+  finds Store c es n e = with_two (λ c. fails (word_step p Store c es s) ≡ false) (λ a x c. store_fails (access_at s.world.data_start true a) s.world x c s) c n
+  finds Emit c es n e = with_one (λ c. fails (word_step p Emit c es s) ≡ false) (λ x c. refl) c n
+  finds Key c es n e = fetch_fails (access_at s.world.data_start false 0x4002) s.world (λ v. v ∷ c) s
   finds Blank c es n e = refl
   finds Cr c es n e = refl
   finds Space c es n e = refl
   finds Base c es n e = refl
-  finds Here c es n e = fetch_lacks (access_at s.world.data_start false (s.world.data_start + 4)) s.world (λ v. v ∷ c) s
-  finds Decimal c es n e = store_lacks (access_at s.world.data_start true s.world.data_start) s.world 10 c s
-  finds Hex c es n e = store_lacks (access_at s.world.data_start true s.world.data_start) s.world 16 c s
+  finds Here c es n e = fetch_fails (access_at s.world.data_start false (s.world.data_start + 4)) s.world (λ v. v ∷ c) s
+  finds Decimal c es n e = store_fails (access_at s.world.data_start true s.world.data_start) s.world 10 c s
+  finds Hex c es n e = store_fails (access_at s.world.data_start true s.world.data_start) s.world 16 c s
   finds Depth c es n e = refl
   finds AbortRun c es n e = refl
   finds Quit c es n e = refl
-  finds ToR c es n e = with_one (λ c. lacks (word_step p ToR c es s) ≡ false) (λ x c. refl) c n
+  finds ToR c es n e = with_one (λ c. fails (word_step p ToR c es s) ≡ false) (λ x c. refl) c n
   finds RFrom c (Cell x ∷ es) n e = refl
   finds RFrom c [] n e = cc
   finds RFrom c (Loop l i ∷ es) n e = cc
@@ -277,7 +294,7 @@ true_of true f = refl
 true_of false f = absurd (f refl)
 
 pub needs_are_exact : NeedsAreExact
-needs_are_exact p word c es s plain = (needs, λ h. when (stands_plain word) (lacks (word_step p word c es s) ≡ false) plain (finds p s word c es h.0 h.1))
+needs_are_exact p word c es s plain = (needs, λ h. lacks_no_more (word_step p word c es s) (when (stands_plain word) (fails (word_step p word c es s) ≡ false) plain (finds p s word c es h.0 h.1)))
   where
     needs : lacks (word_step p word c es s) ≡ false → ((entry_of word).need ≤ length c) × (finds_entries word es ≡ true)
     needs e = (

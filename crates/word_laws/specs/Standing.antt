@@ -5,7 +5,7 @@ use Rattle.j1_simulator.specs.declared.ends.End.TheVariants as chip
 use Rattle.j1_simulator.specs.Effect.{following}
 use Rattle.j1_simulator.specs.Step.{Stop, By}
 use Rattle.j1_simulator.specs.OpenMachine.{top_cell, rest}
-use Rattle.forth_program.specs.State.{Entry, Cell, Loop, World, State, End, Halted, InputEnded, Outside, Underflow, Unbalanced, Outcome, Goes, Ends}
+use Rattle.forth_program.specs.State.{Entry, Cell, Loop, World, State, End, Halted, InputEnded, Outside, Underflow, Unbalanced, Left, Outcome, Goes, Ends}
 use Rattle.word_laws.specs.Rings.{OpenConfiguration}
 
 -- T and the places below it: the data cells, with the top first, and one unknown place below the last of them
@@ -61,13 +61,14 @@ standing_at_depths m c world = standing m c (pos (length c)) (pos (length m.retu
 abbrev pub standing_as : State → MachinePlace → OpenConfiguration
 standing_as s m = standing_at_depths (record m { returns = return_places s.entries m.returns }) s.cells s.world
 
--- the machine's end for an end of a source; it has none for a lack of cells or of return entries
+-- the machine's end for an end of a source; it has none for a lack of cells or of return entries, nor where GO leads out of the source
 abbrev pub machine_end : End → Option Stop
 machine_end (Halted status) = Some (By (chip.Halted status))
 machine_end InputEnded = Some (By chip.InputEnded)
 machine_end (Outside address) = Some (By (chip.Outside address))
 machine_end Underflow = None
 machine_end Unbalanced = None
+machine_end (Left address) = None
 
 -- a machine that has ended so, with the data space, the input and the prints of a world
 pub record EndedIn (w : OpenConfiguration) (code : List ℕ) (stop : Stop) (world : World) : Type 0 where
