@@ -1,5 +1,6 @@
 mod Examples
 pub mod Views
+pub mod GoViews
 pub mod RunLaws
 pub mod WordGrowth
 pub mod StepGrowth

@@ -6,6 +6,7 @@
 #![tactic(auto)]
 
 mod depth;
+mod go;
 mod item;
 mod laws;
 mod name;

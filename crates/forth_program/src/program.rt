@@ -1,6 +1,6 @@
 // Programs, and the parts from which one is made.
-ghost use Rattle.std.specs.Prelude.{◌≡◌, ◌-◌, ◌<◌, ◌≤◌, map, length, slice_index_or, [], IfOk};
-ghost use Rattle.forth_program.specs.Form.{IsProgram};
+ghost use Rattle.std.specs.Prelude.{◌≡◌, ◌-◌, ◌<◌, ◌≤◌, map, length, not, slice_index_or, [], IfOk};
+ghost use Rattle.forth_program.specs.Form.{IsProgram, has_no_go};
 ghost use Rattle.console_ports.specs.DataSpace.{IsDataStart};
 ghost use Rattle.forth_program.specs.ItemTrees.{tree_of};
 ghost use Rattle.forth_reader.specs.Name.{IsName};
@@ -8,6 +8,7 @@ ghost use Rattle.forth_program.specs.Parts.{program_of, token_node};
 ghost use Rattle.forth_program.specs.Program.{body_of, uses_depth as depth_is_used};
 
 use crate::depth::{bodies_have_depth, tokens_have_depth};
+use crate::go::bodies_lack_go;
 use crate::item::{DefId, Items};
 use crate::name::Name;
 use std::alloc::{AllocError, Global};
@@ -148,5 +149,12 @@ impl Program {
     {
         bodies_have_depth(self.parts.bodies.as_slice())
             | tokens_have_depth(self.parts.tokens.as_slice())
+    }
+
+    /// Whether the word `GO` stands in a body.
+    pub fn uses_go(&self) -> bool
+        ensures { result ≡ not (has_no_go self.now) }
+    {
+        !bodies_lack_go(self.parts.bodies.as_slice())
     }
 }
