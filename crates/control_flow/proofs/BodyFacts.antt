@@ -112,8 +112,10 @@ token_id N (Child definition address) e = (and_parts (nat_lt definition N) (nat_
 token_id N node e = refl
 
 pub token_stands : (N : ℕ) (node : Node) → is_read_token N node ≡ true → may_be_token node ≡ true
-token_stands N (Plain word) e = e
-token_stands N node e = refl
+token_stands N (Literal value) e = refl
+token_stands N (Call definition) e = refl
+token_stands N (Child definition address) e = refl
+token_stands N node e = e
 
 pub each_wider : (P Q : Node → Bool) → ((node : Node) → P node ≡ true → Q node ≡ true) → (nodes : List Node) → list_all P nodes ≡ true → list_all Q nodes ≡ true
 each_wider P Q wider [] h = refl

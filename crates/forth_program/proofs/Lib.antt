@@ -4,6 +4,8 @@ pub mod GoViews
 pub mod RunLaws
 pub mod WordGrowth
 pub mod StepGrowth
+pub mod WordStays
+pub mod StepStays
 mod Rows
 mod StackVectors
 mod ArithmeticVectors

@@ -5,7 +5,7 @@ use Rattle.word_table.specs.declared.word.Word.TheVariants.{ToR, RFrom, RFetch, 
 use Rattle.word_table.specs.declared.word.Class.{Class}
 use Rattle.word_table.specs.declared.word.Class.TheVariants as class
 use Rattle.word_table.specs.Table.{entry_of}
-use Rattle.forth_program.specs.Tree.{Node, Nodes, Arms, Plain, Call, Child, If, Until, While, Again, Do, QDo, Case, Leave, Empty, Then, NoArm, Arm}
+use Rattle.forth_program.specs.Tree.{Node, Nodes, Arms, Literal, Plain, Call, Child, If, Until, While, Again, Do, QDo, Case, Leave, Empty, Then, NoArm, Arm}
 use Rattle.forth_program.specs.Program.{SourceProgram}
 use Rattle.console_ports.specs.DataSpace.{IsDataStart}
 
@@ -57,12 +57,15 @@ may_stand (Plain Unloop) = true
 may_stand (Plain word) = is_code_class ((entry_of word).class)
 may_stand node = true
 
--- a token's word is inline or library, and neither EXECUTE nor GO
+-- a token stands for a definition, a child, a number, or a word that is inline or library, and neither EXECUTE nor GO
 abbrev pub may_be_token : Node → Bool
 may_be_token (Plain Execute) = false
 may_be_token (Plain Go) = false
 may_be_token (Plain word) = is_code_class ((entry_of word).class)
-may_be_token node = true
+may_be_token (Literal value) = true
+may_be_token (Call definition) = true
+may_be_token (Child definition address) = true
+may_be_token node = false
 
 -- an item that is not GO
 abbrev pub is_not_go : Node → Bool

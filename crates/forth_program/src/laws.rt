@@ -1,6 +1,6 @@
 // What holds of all trees of items, and of all runs.
 ghost use Rattle.forth_program.specs.TreeLaws.{IfTree, UntilTree, WhileTree, AgainTree, DoTree, QDoTree, CaseTree, TreesJoin};
-ghost use Rattle.forth_program.specs.RunLaws.{StepsCompose, EndStays, SpentAdds, WorldsGrow};
+ghost use Rattle.forth_program.specs.RunLaws.{StepsCompose, EndStays, SpentAdds, WorldsGrow, ProgramsStay};
 
 /// The tree of a structure has the trees of its parts, and one list after another has the trees of both.
 pub fn trees_have_parts()
@@ -31,4 +31,9 @@ pub fn prices_add()
 /// keeps its place and its size.
 pub fn worlds_grow()
     ensures { WorldsGrow }
+{}
+
+/// A run of a program without `GO` is never led out of the source.
+pub fn sources_stay()
+    ensures { ProgramsStay }
 {}

@@ -13,6 +13,6 @@ mod name;
 mod program;
 
 pub use item::{Arms, DefId, Item, Items, TextKind};
-pub use laws::{prices_add, runs_compose, trees_have_parts, worlds_grow};
+pub use laws::{prices_add, runs_compose, sources_stay, trees_have_parts, worlds_grow};
 pub use name::Name;
 pub use program::{Program, ProgramParts, Token};
