@@ -229,6 +229,7 @@ module _ (p : SourceProgram) (known : Known) (heads : List (ℤ × ℤ)) (main :
   token_word OuterIndex h = cc
   token_word Unloop h = cc
   token_word Execute h = cc
+  token_word table.Go h = cc
   token_word word h = (λ i shape. kept_by (h i) shape, refl)
 
   -- a child is a literal and then a call

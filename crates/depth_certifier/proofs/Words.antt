@@ -460,5 +460,6 @@ module _ (w : World) where
   meaning_kept table.QDup c h = with_one (λ c. Kept (table_effect table.QDup).exit (length c) (meaning table.QDup c w)) (λ x c. query_kept x c) c h
   meaning_kept table.AbortRun c h = refl
   meaning_kept table.Quit c h = refl
+  meaning_kept table.Go c h = with_one (λ c. Kept (table_effect table.Go).exit (length c) (meaning table.Go c w)) (λ x c. refl) c h
   -- the others do not stand in a body, or work on return entries, or are EXECUTE
   meaning_kept word c h = tt
