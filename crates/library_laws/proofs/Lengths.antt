@@ -8,7 +8,7 @@ use Rattle.word_table.specs.declared.word.Word.TheVariants.{Dup, DropTop, Swap, 
 use Rattle.word_table.specs.declared.word.Word.TheVariants.{Plus, Minus, Negate, OnePlus, OneMinus, TwoStar, And, Or, Xor, Invert, LShift, RShift, TwoSlash, Abs, Max, Min}
 use Rattle.word_table.specs.declared.word.Word.TheVariants.{Equal, NotEqual, Less, Greater, ULess, ZeroEqual, ZeroLess, ZeroGreater, Within, SToD, Cells, CellPlus, Chars, CharPlus, Aligned, Blank, Base, Depth}
 use Rattle.word_table.specs.declared.word.Word.TheVariants.{Fetch, Store, CFetch, CStore, PlusStore, TwoFetch, TwoStore, Count, Here, Comma, CComma, Allot, Align, Decimal, Hex}
-use Rattle.word_table.specs.declared.word.Word.TheVariants.{Emit, Key, Cr, Space, Spaces, TypeOut, Fill, Move, Accept, ToNumber}
+use Rattle.word_table.specs.declared.word.Word.TheVariants.{Emit, Key, Cr, Space, Spaces, TypeOut, Fill, Move, Accept, ToNumber, Go}
 use Rattle.word_table.specs.declared.word.Word.TheVariants.{UMStar, MStar, Star, UMSlashMod, SMSlashRem, FMSlashMod, SlashMod, Slash, Mod, StarSlashMod, StarSlash}
 use Rattle.word_table.specs.declared.word.Word.TheVariants.{LessSharp, Hold, Sign, Sharp, SharpS, SharpGreater, Dot, UDot}
 use Rattle.word_table.specs.Table.{entry_of}
@@ -147,5 +147,6 @@ leaves_at_most Comma (v ∷ c) w = then_more _ (here w) _ (λ h w. then_more _ (
 leaves_at_most CComma (v ∷ c) w = then_more _ (here w) _ (λ h w. then_more _ (store_byte h v w) _ (λ x w. then_cells _ (grow_here 1 w) _ (λ x. omega arith)))
 leaves_at_most Align c w = then_more _ (here w) _ (λ x w. then_cells _ (store (w.data_start + 4) (even (sum_of x 1)) w) _ (λ x. omega arith))
 leaves_at_most ToNumber (u ∷ a ∷ h ∷ l ∷ c) w = then_more _ (base w) _ (λ x w. then_cells _ (number_from x u a (double l h) w) _ (λ x. omega arith))
--- the others end the run
+-- GO and the others end the run
+leaves_at_most Go (a ∷ c) w = tt
 leaves_at_most word c w = tt
