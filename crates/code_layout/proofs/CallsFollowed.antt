@@ -1,5 +1,5 @@
 -- Each call of an image is followed by what may stand behind a call.
-use Rattle.std.proofs.Common.{◌≡◌, ℕ, ◌+◌, ◌-◌, ◌<◌, ◌≤◌, inl, inr, Bool, true, false, ◌&&◌, ◌||◌, List, [], ◌∷◌, ◌++◌, length, slice_index, Option, Some, None, refl, sym, ap, ◌∙◌, subst, arith}
+use Rattle.std.proofs.Common.{◌≡◌, ◌≢◌, ℕ, ◌+◌, ◌-◌, ◌<◌, ◌≤◌, inl, inr, Bool, true, false, ◌&&◌, ◌||◌, List, [], ◌∷◌, ◌++◌, length, slice_index, Option, Some, None, refl, sym, ap, ◌∙◌, subst, arith}
 use Rattle.std.specs.Prelude.{not, nat_lt, nat_le, nat_eq, if◌then◌else◌}
 use Rattle.std.specs.List.{list_all}
 use Rattle.std.proofs.lemmas.Bool.Decides.{nat_tests}
@@ -14,7 +14,7 @@ use Rattle.word_laws.specs.Standing.{StandIn}
 use Rattle.word_laws.specs.Words.{stands_plain}
 use Rattle.forth_program.specs.declared.item.TextKind.{TextKind}
 use Rattle.forth_program.specs.declared.item.TextKind.TheVariants as text
-use Rattle.code_layout.specs.Layout.{Routine, Definition, Library, Executing, Aborting, type_routine, routine_of, word_falls_through, text_falls_through}
+use Rattle.code_layout.specs.Layout.{Routine, Definition, Library, Executing, Aborting, Leaving, type_routine, routine_of, word_falls_through, text_falls_through}
 use Rattle.code_layout.specs.Layout.{word_size, text_size, word_cells, text_cells, jump_to, branch_to, call_cell, return_cell, do_cells, turn_cells, out_cells}
 use Rattle.code_layout.specs.Layout.{turn_size, q_do_cells, of_cells, end_case_cells, falls_through, reaches_end, cell_if, size_if, node_size, size, arms_size}
 use Rattle.code_layout.specs.Layout.{body_size, else_place, while_place, out_place, arm_place, others_place, loop_code, arm_code, node_cells, nodes_cells}
@@ -89,7 +89,7 @@ module _ (code : List ℕ) where
   module _ (data_start : ℕ) (place : Routine → ℕ) (low : (r : Routine) → place r < 8192) (executes : Bool) (words count : ℕ) (goes_back : Node → Bool) (start : ℕ)
       (near_call : (d : ℕ) → is_laid_out executes words count (Call d) ≡ true → goes_back (Call d) ≡ true → place (Definition d) ≤ start)
       (near_word : (number : ℕ) → nat_lt number words ≡ true → place (Library number) ≤ start)
-      (near_stubs : executes ≡ true → place Executing ≤ start) where
+      (near_stubs : executes ≡ true → place Executing ≤ start) (no_return : executes ≡ true → slice_index code (place Leaving) ≢ 0x700C) where
     abbrev pub laid : Node → Bool
     laid = is_laid_out executes words count
 
@@ -195,6 +195,11 @@ module _ (code : List ℕ) where
     call_starts true r at next near after h = jump_back code at (place r) h.0 (low r) (omega arith)
     call_starts false r at next near after h = let l = low r in other_cell code at (0x4000 + place r) h.0 (omega arith) (λ e. absurd (omega (arith, e, l)))
 
+    -- that of GO stands further on, but begins with no return
+    leaving_starts : (tail : Bool) (at next : ℕ) → slice_index code (place Leaving) ≢ 0x700C → StandIn code at (call_cell tail (place Leaving) ∷ []) next → MayFollow code at
+    leaving_starts true at next other h = jump_on code at (place Leaving) h.0 (low Leaving) (λ e. absurd (other e))
+    leaving_starts false at next other h = let l = low Leaving in other_cell code at (0x4000 + place Leaving) h.0 (omega arith) (λ e. absurd (omega (arith, e, l)))
+
     plain_starts : (word : Word) (found : Option Routine) (tail : Bool) (at next : ℕ) → word_is_laid_out executes words found word ≡ true →
         begins_well (Plain word) ≡ true → start ≤ at → StandIn code at (word_cells data_start place tail found word) next → MayFollow code at
     plain_starts word None tail at next fit some after h =
@@ -202,6 +207,7 @@ module _ (code : List ℕ) where
         word_starts data_start word at next (third (stands_plain word) (begins_well (Plain word)) (starts_well (cells_of word)) well fit some) h
     plain_starts word (Some (Library number)) tail at next fit some after h = call_starts tail (Library number) at next (near_word number fit) after h
     plain_starts word (Some Executing) tail at next fit some after h = call_starts tail Executing at next (near_stubs fit) after h
+    plain_starts word (Some Leaving) tail at next fit some after h = leaving_starts tail at next (no_return fit) h
     plain_starts word (Some (Definition d)) tail at next fit some after h = absurd (let f : false ≡ true = fit in cc)
     plain_starts word (Some Aborting) tail at next fit some after h = absurd (let f : false ≡ true = fit in cc)
 

@@ -7,7 +7,7 @@ use Rattle.j1_simulator.specs.Run.{run, begun, open_start, open_run, round_run, 
 use Rattle.j1_simulator.specs.Laws.{OnlyGrows}
 use Rattle.forth_program.specs.State.{End, Outcome, Goes, Ends}
 use Rattle.forth_program.specs.Program.{SourceProgram}
-use Rattle.forth_program.specs.Run.{source_run, world_of, end_of, lacks}
+use Rattle.forth_program.specs.Run.{source_run, world_of, end_of, leaves}
 use Rattle.forth_program.specs.Price.{price}
 use Rattle.word_laws.specs.Rings.{OpenConfiguration, BeforeEach, RunsDoTheSame, Agrees}
 use Rattle.word_laws.specs.Bounds.{StaysWithin}
@@ -21,6 +21,7 @@ use Rattle.forth_program.specs.Heights.{StacksFit, IsSafe}
 use Rattle.code_layout.specs.Agreement.{AreBytes, code_of, stop_of_outcome, ForwardSimulation, word_steps, BackwardSimulation, ImagesAgree}
 use Rattle.code_layout.specs.Chip.{DepthStaysWithin, AgreesOnChip}
 use Rattle.code_layout.proofs.Image.{filled_length}
+use Rattle.code_layout.proofs.Runs.{strays, strays_not}
 use Rattle.code_layout.proofs.Simulation.{never_missing, stop_at}
 
 fewer : (P : OpenConfiguration → Type 0) (data_start n m : ℕ) (v : OpenConfiguration) → n ≤ m → BeforeEach P data_start m v → BeforeEach P data_start n v
@@ -34,15 +35,18 @@ after_each P data_start (suc n) v before = after_each P data_start n (advanced v
 
 module _ (agree : ImagesAgree) (rings : RunsDoTheSame) (bounds_fit : BoundsFitRings) (bounds_join : BoundsJoin) (ends_stay : EndsStay) (grows : OnlyGrows open_storage)
     (library : List Nodes) (p : SourceProgram) (input : List ℕ) (form : IsLibrary library) (means : LibraryMeans library) (built : IsBuilt library p)
-    (space : AreBytes p.first_space) (bytes : AreBytes input) (well : (k : ℕ) → IsSafe p input k) (fit : (k : ℕ) → StacksFit p input 33 32 k) where
+    (space : AreBytes p.first_space) (bytes : AreBytes input) (well : (k : ℕ) → IsSafe p input k) (stays : (k : ℕ) → leaves (source_run p input k) ≡ false) (fit : (k : ℕ) → StacksFit p input 33 32 k) where
   abbrev start : OpenConfiguration
   start = begun (open_start (laid_out library p)) input
 
+  sound : (k : ℕ) → strays (source_run p input k) ≡ false
+  sound k = let w = well k in strays_not (source_run p input k) w.lacks_nothing (stays k)
+
   much : (k : ℕ) → ForwardSimulation library p input k
-  much k = agree.forward library p input k form means built space bytes (well k)
+  much k = agree.forward library p input k form means built space bytes (well k) (stays k)
 
   more : (n : ℕ) → BackwardSimulation library p input n
-  more n = agree.backward library p input n form means built space bytes (well (word_steps p n))
+  more n = agree.backward library p input n form means built space bytes (well (word_steps p n)) (stays (word_steps p n))
 
   module _ (high return_high : ℕ) (fits : (k : ℕ) → StacksFit p input high return_high k) where
     always_by : (n : ℕ) (m : ForwardSimulation library p input (word_steps p n)) (o : Outcome) → source_run p input (word_steps p n) ≡ o → BeforeEach (StaysWithin 0 high 0 return_high) p.data_start (suc n) start
@@ -50,8 +54,7 @@ module _ (agree : ImagesAgree) (rings : RunsDoTheSame) (bounds_fit : BoundsFitRi
         let lt : n < m.count = m.far_enough n (omega arith) (ap end_of e) in
         fewer (StaysWithin 0 high 0 return_high) p.data_start (suc n) m.count start (omega (arith, lt)) (m.stacks_before high return_high (fits (word_steps p n)))
     always_by n m (Ends end world) e =
-        let w = well (word_steps p n) in
-        let stop = stop_at end world (sym (ap lacks e) ∙ w.lacks_nothing) in
+        let stop = stop_at end world (sym (ap strays e) ∙ sound (word_steps p n)) in
         let stopped : (open_run (laid_out library p) input m.count).stop ≡ Some stop.0 = m.shows.stop_is ∙ ap stop_of_outcome e ∙ stop.1 in
         let stay = ends_stay 0 high 0 return_high (suc n) p.data_start (open_run (laid_out library p) input m.count) stop.0 stopped in
         fewer (StaysWithin 0 high 0 return_high) p.data_start (suc n) (m.count + suc n) start (omega arith)
@@ -78,11 +81,11 @@ module _ (agree : ImagesAgree) (rings : RunsDoTheSame) (bounds_fit : BoundsFitRi
     where
       stop_now : (k : ℕ) (end : End) (o : Outcome) → source_run p input k ≡ o → end_of (source_run p input k) ≡ Some end → (stop : Stop) × (stop_of_outcome (source_run p input k) ≡ Some stop)
       stop_now k end (Goes s) e f = let g : None ≡ Some end = sym (ap end_of e) ∙ f in cc
-      stop_now k end (Ends end' world) e f = let w = well k in let s = stop_at end' world (sym (ap lacks e) ∙ w.lacks_nothing) in (s.0, ap stop_of_outcome e ∙ s.1)
+      stop_now k end (Ends end' world) e f = let s = stop_at end' world (sym (ap strays e) ∙ sound k) in (s.0, ap stop_of_outcome e ∙ s.1)
 
-  stop_of_end : (o : Outcome) (end : End) → lacks o ≡ false → end_of o ≡ Some end → (stop : Stop) × (stop_of_outcome o ≡ Some stop) × (machine_end end ≡ Some stop)
-  stop_of_end (Goes s) end sound e = cc
-  stop_of_end (Ends end' world) end sound e = let s = stop_at end' world sound in let same : end' ≡ end = cc in (s.0, s.1, ap machine_end (sym same) ∙ s.1)
+  stop_of_end : (o : Outcome) (end : End) → strays o ≡ false → end_of o ≡ Some end → (stop : Stop) × (stop_of_outcome o ≡ Some stop) × (machine_end end ≡ Some stop)
+  stop_of_end (Goes s) end sound' e = cc
+  stop_of_end (Ends end' world) end sound' e = let s = stop_at end' world sound' in let same : end' ≡ end = cc in (s.0, s.1, ap machine_end (sym same) ∙ s.1)
 
   code_is : length (code_of library p) ≡ p.data_start / 2
   code_is = filled_length (p.data_start / 2) (laid_out library p).cells built.code_fits
@@ -104,8 +107,7 @@ module _ (agree : ImagesAgree) (rings : RunsDoTheSame) (bounds_fit : BoundsFitRi
         (front.0, ap (λ xs. xs ++ front.0) (sym m.shows.printed) ∙ front.1 ∙ (alike (price p input k)).printed);
     ends_no_later = λ k end e.
         let m = much k in
-        let w = well k in
-        let s = stop_of_end (source_run p input k) end w.lacks_nothing e in
+        let s = stop_of_end (source_run p input k) end (sound k) e in
         let later = grows.ends p.data_start m.count (price p input k) start s.0 m.within_price (m.shows.stop_is ∙ s.1) in
         (s.0, sym (alike (price p input k)).stop ∙ ap (λ v. v.stop) later ∙ m.shows.stop_is ∙ s.1, s.2);
     ends_alike = λ n k stop end e f.

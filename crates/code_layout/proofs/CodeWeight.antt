@@ -11,16 +11,16 @@ use Rattle.forth_program.specs.Weight.{text_weight, else_weight, turn_weight, no
 use Rattle.word_laws.specs.Numbers.{number_cells}
 use Rattle.forth_program.specs.declared.item.TextKind.{TextKind}
 use Rattle.forth_program.specs.declared.item.TextKind.TheVariants as text
-use Rattle.forth_program.specs.Form.{everywhere, inside, in_arms}
+use Rattle.forth_program.specs.Form.{everywhere, inside, in_arms, has_no_go}
 use Rattle.std.specs.List.{list_all}
 use Rattle.code_layout.specs.Built.{text_is_laid_out, is_laid_out}
-use Rattle.code_layout.specs.Layout.{routine_of, type_routine, word_size, word_token_size, text_size, bodies_size, token_jumps, tokens_cells, execute_cells}
+use Rattle.code_layout.specs.Layout.{routine_of, type_routine, word_size, word_token_size, text_size, bodies_size, token_jumps, leaving_cells, tokens_cells, execute_cells}
 use Rattle.code_layout.specs.Layout.{abort_cells, library_place, execute_place, abort_place, first_place, tokens_place, turn_size, falls_through, reaches_end}
 use Rattle.code_layout.specs.Layout.{size_if, else_size, node_size, size, arms_size, bodies_cells, routine_place}
 use Rattle.code_layout.specs.Weights.{CodeIsLight, ItemsAreLight, TokensAreLight}
 use Rattle.code_layout.specs.Numbering.{library_number}
 use Rattle.code_layout.proofs.Image.{bodies_size_is, jumps_length}
-use Rattle.code_layout.proofs.DefinitionPlaces.{tokens_size_is}
+use Rattle.code_layout.proofs.LaidCode.{tokens_size_is, leaving_size_is}
 use Rattle.code_layout.proofs.Machine.{both}
 
 number_light : (value : ℕ) → length (number_cells value) ≤ 2
@@ -118,12 +118,15 @@ code_is_light library p items =
     let of_library = bodies_cells p.data_start (routine_place library p) (library_place p) library in
     let of_program = bodies_cells p.data_start (routine_place library p) (first_place library p) p.bodies in
     let of_tokens = tokens_cells p.data_start (routine_place library p) p.tokens in
-    let stubs = execute_cells (execute_place library p) (length p.tokens) ++ (abort_cells (abort_place library p) (routine_place library p type_routine) ++ (of_program ++ of_tokens)) in
+    let of_leaving = leaving_cells (has_no_go p) in
+    let stubs = execute_cells (execute_place library p) (length p.tokens) ++ (abort_cells (abort_place library p) (routine_place library p type_routine) ++ (of_program ++ (of_tokens ++ of_leaving))) in
     omega (
       arith,
       length-append jumps (of_library ++ stubs),
       length-append of_library stubs,
-      length-append of_program of_tokens,
+      length-append of_program (of_tokens ++ of_leaving),
+      length-append of_tokens of_leaving,
+      leaving_size_is (has_no_go p),
       jumps_length (routine_place library p) (tokens_place library p) p.tokens,
       bodies_size_is p.data_start (routine_place library p) (library_place p) library,
       bodies_size_is p.data_start (routine_place library p) (first_place library p) p.bodies,

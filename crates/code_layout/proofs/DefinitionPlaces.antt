@@ -1,6 +1,6 @@
 -- The places of definitions, and the image that they make.
 use Rattle.std.proofs.Common.{◌≡◌, ℕ, zero, suc, ◌+◌, ◌<◌, ◌≤◌, nat_lt, Bool, true, false, ◌&&◌, List, [], ◌∷◌, ◌++◌, length, drop, get_or, map, slice_index, Option, Some, None, refl, sym, ap, ◌∙◌, subst, append_assoc, length-append, arith}
-use Rattle.std.specs.Prelude.{slice_index_or}
+use Rattle.std.specs.Prelude.{not, slice_index_or}
 use Rattle.std.specs.List.{list_all}
 use Rattle.std.proofs.lemmas.Bool.Decides.{nat_tests}
 use Rattle.std.proofs.Math.Path.{fun_ext}
@@ -10,28 +10,21 @@ use Rattle.forth_program.specs.Tree.{Node, Nodes, Literal, Plain, Call, Child, A
 use Rattle.forth_program.specs.declared.program.Token.{Token}
 use Rattle.forth_program.specs.Parts.{token_node}
 use Rattle.forth_program.specs.Program.{SourceProgram}
-use Rattle.forth_program.specs.Form.{everywhere, inside, in_arms}
+use Rattle.forth_program.specs.Form.{everywhere, inside, in_arms, has_no_go}
 use Rattle.code_layout.specs.declared.places.Places.{Places}
-use Rattle.code_layout.specs.Layout.{Routine, Definition, Library, Executing, Aborting, routine_of, type_routine, body_size, body_cells, bodies_cells}
-use Rattle.code_layout.specs.Layout.{begins_at, bodies_size, execute_cells, abort_cells, token_cells, token_size, tokens_cells, token_place, token_jumps}
-use Rattle.code_layout.specs.Layout.{jump_to, library_place, execute_place, abort_place, first_place, tokens_place, routine_place, header, laid_out}
+use Rattle.code_layout.specs.Layout.{Routine, Definition, Library, Executing, Aborting, Leaving, routine_of, type_routine, body_size, body_cells, bodies_cells}
+use Rattle.code_layout.specs.Layout.{begins_at, bodies_size, execute_cells, abort_cells, token_cells, token_size, tokens_size, leaving_cells, leaving_size, tokens_cells, token_place, token_jumps}
+use Rattle.code_layout.specs.Layout.{jump_to, library_place, execute_place, abort_place, first_place, tokens_place, leaving_place, routine_place, header, laid_out}
 use Rattle.code_layout.specs.Built.{word_is_laid_out, is_laid_out, token_is_laid_out, IsBuilt}
 use Rattle.code_layout.specs.Library.{each_uses_earlier, IsLibrary}
-use Rattle.code_layout.specs.Places.{ArePlaces, PlacesOf, places_from, place_by, word_count, definition_count, tokens_size}
+use Rattle.code_layout.specs.Places.{ArePlaces, PlacesOf, places_from, place_by, word_count, definition_count}
 use Rattle.code_layout.proofs.Image.{bodies_size_is, jumps_length}
-use Rattle.code_layout.proofs.LaidCode.{body_size_is, token_size_is}
+use Rattle.code_layout.proofs.LaidCode.{body_size_is, token_size_is, tokens_size_is, leaving_size_is}
 use Rattle.code_layout.proofs.Machine.{both}
 use Rattle.code_layout.proofs.AddedCells.{cells_more}
 
-pub tokens_size_is : (data_start : ℕ) (place : Routine → ℕ) (tokens : List Node) → length (tokens_cells data_start place tokens) ≡ tokens_size tokens
-tokens_size_is data_start place [] = refl
-tokens_size_is data_start place (node ∷ tokens) = length-append (token_cells data_start place node) (tokens_cells data_start place tokens) ∙ two_sums (token_size_is node data_start place) (tokens_size_is data_start place tokens)
-  where
-    two_sums : {a b c d : ℕ} → a ≡ b → c ≡ d → a + c ≡ b + d
-    two_sums e f = cc
-
 -- all parts of an image fit
-pub room : (library : List Nodes) (p : SourceProgram) → IsBuilt library p → tokens_place library p + tokens_size p.tokens ≤ 8000
+pub room : (library : List Nodes) (p : SourceProgram) → IsBuilt library p → leaving_place library p + leaving_size (has_no_go p) ≤ 8000
 room library p built =
     let fits = built.code_fits in
     let most = built.data_start.at_most in
@@ -40,14 +33,17 @@ room library p built =
     let of_library = bodies_cells p.data_start (routine_place library p) (library_place p) library in
     let of_program = bodies_cells p.data_start (routine_place library p) (first_place library p) p.bodies in
     let of_tokens = tokens_cells p.data_start (routine_place library p) p.tokens in
-    let stubs = execute_cells (execute_place library p) (length p.tokens) ++ (abort_cells (abort_place library p) (routine_place library p type_routine) ++ (of_program ++ of_tokens)) in
+    let of_leaving = leaving_cells (has_no_go p) in
+    let stubs = execute_cells (execute_place library p) (length p.tokens) ++ (abort_cells (abort_place library p) (routine_place library p type_routine) ++ (of_program ++ (of_tokens ++ of_leaving))) in
     omega (
       arith,
       fits,
       most,
       length-append jumps (of_library ++ stubs),
       length-append of_library stubs,
-      length-append of_program of_tokens,
+      length-append of_program (of_tokens ++ of_leaving),
+      length-append of_tokens of_leaving,
+      leaving_size_is (has_no_go p),
       jumps_length (routine_place library p) (tokens_place library p) p.tokens,
       bodies_size_is p.data_start (routine_place library p) (library_place p) library,
       bodies_size_is p.data_start (routine_place library p) (first_place library p) p.bodies,
@@ -84,6 +80,7 @@ module _ (words count words' count' : ℕ) (more_words : words ≤ words') (more
   word_laid word None h = h
   word_laid word (Some (Library number)) h = let e = h in grind (arith, nat_tests)
   word_laid word (Some Executing) h = cc
+  word_laid word (Some Leaving) h = cc
   word_laid word (Some (Definition d)) h = cc
   word_laid word (Some Aborting) h = cc
 
@@ -231,9 +228,13 @@ token_added data_start place words count whole code after tokens i d lt added be
       (both (token_is_laid_out words count (token_node (get_or tokens i d))) (list_all (token_is_laid_out words count) (map token_node rest)) now.1).1,
     )
 
+pub not_not : (b : Bool) → not (not b) ≡ b
+not_not true = refl
+not_not false = refl
+
 -- parts one after the other
-five_parts : (a b c d e : List ℕ) (u v w x y z : List ℕ) → b ≡ a ++ u → c ≡ b ++ (v ++ (w ++ x)) → d ≡ c ++ y → e ≡ d ++ z → e ≡ a ++ (u ++ (v ++ (w ++ (x ++ (y ++ z)))))
-five_parts a b c d e u v w x y z first second third fourth = simp (fourth, third, second, first, append_assoc) refl
+six_parts : (a b c d e f : List ℕ) (u v w x y z t : List ℕ) → b ≡ a ++ u → c ≡ b ++ (v ++ (w ++ x)) → d ≡ c ++ y → e ≡ d ++ z → f ≡ e ++ t → f ≡ a ++ (u ++ (v ++ (w ++ (x ++ (y ++ (z ++ t))))))
+six_parts a b c d e f u v w x y z t first second third fourth fifth = simp (fifth, fourth, third, second, first, append_assoc) refl
 
 pub three_parts : (a b c d : List ℕ) (u w x : List ℕ) → b ≡ a ++ u → c ≡ b ++ w → d ≡ c ++ x → d ≡ a ++ (u ++ (w ++ x))
 three_parts a b c d u w x first second third = simp (third, second, first, append_assoc) refl
@@ -260,6 +261,7 @@ module _ (library : List Nodes) (p : SourceProgram) (built : IsBuilt library p) 
   routines_are (Library number) = ap (λ xs. slice_index xs number) are.words ∙ place_is (library_place p) library number
   routines_are Executing = are.execute
   routines_are Aborting = are.abort
+  routines_are Leaving = are.leaving
 
   pub words_are : word_count places ≡ length library
   words_are = ap length are.words ∙ places_length (library_place p) library
@@ -275,11 +277,13 @@ module _ (library : List Nodes) (p : SourceProgram) (built : IsBuilt library p) 
       let h = room library p built in
       let execute = are.execute in
       let abort = are.abort in
+      let leaving = are.leaving in
       record {
         words = λ k lt. subst (λ xs. slice_index xs k < 8192) (sym are.words) (places_low (library_place p) library k (omega (arith, h)));
         definitions = λ k lt. definition_low k;
         execute = omega (arith, h, execute);
         abort = omega (arith, h, abort);
+        leaving = omega (arith, h, leaving);
       }
 
   pub main_low : (main_at main : ℕ) → main_at ≡ slice_index places.definitions.items main → main_at < 8192
@@ -303,11 +307,12 @@ module _ (library : List Nodes) (p : SourceProgram) (built : IsBuilt library p) 
   main_is main main_at e same = e ∙ ap (λ d. slice_index places.definitions.items d) same ∙ routines_are (Definition p.main_body)
 
   -- the header, and each part after it
-  pub cells_are : (head jumped routines defined code : List ℕ) (main_at tokens_at : ℕ) → main_at ≡ routine_place library p (Definition p.main_body) → tokens_at ≡ tokens_place library p → head ≡ header main_at →
+  pub cells_are : (head jumped routines defined tokened code : List ℕ) (main_at tokens_at : ℕ) → main_at ≡ routine_place library p (Definition p.main_body) → tokens_at ≡ tokens_place library p → head ≡ header main_at →
       jumped ≡ head ++ token_jumps (place_by places) tokens_at p.tokens →
       routines ≡ jumped ++ (bodies_cells p.data_start (place_by places) (length jumped) library ++ (execute_cells places.execute (length p.tokens) ++ abort_cells places.abort (place_by places type_routine))) →
-      defined ≡ routines ++ bodies_cells p.data_start (place_by places) (length routines) p.bodies → code ≡ defined ++ tokens_cells p.data_start (place_by places) p.tokens → code ≡ (laid_out library p).cells
-  cells_are head jumped routines defined code main_at tokens_at main tokens head_is jumped_is routines_is defined_is code_is =
+      defined ≡ routines ++ bodies_cells p.data_start (place_by places) (length routines) p.bodies → tokened ≡ defined ++ tokens_cells p.data_start (place_by places) p.tokens → code ≡ tokened ++ leaving_cells (has_no_go p) →
+      code ≡ (laid_out library p).cells
+  cells_are head jumped routines defined tokened code main_at tokens_at main tokens head_is jumped_is routines_is defined_is tokened_is code_is =
       let same : place_by places ≡ routine_place library p = fun_ext routines_are in
       let eight : length head ≡ 8 = ap length head_is in
       let jumps = token_jumps (place_by places) tokens_at p.tokens in
@@ -322,10 +327,10 @@ module _ (library : List Nodes) (p : SourceProgram) (built : IsBuilt library p) 
         bodies_size_is p.data_start (place_by places) (length jumped) library,
         after_jumps,
       ) in
-      five_parts head jumped routines defined code (token_jumps (place_by places) tokens_at p.tokens)
+      six_parts head jumped routines defined tokened code (token_jumps (place_by places) tokens_at p.tokens)
       (bodies_cells p.data_start (place_by places) (length jumped) library) (execute_cells places.execute (length p.tokens))
       (abort_cells places.abort (place_by places type_routine))
-      (bodies_cells p.data_start (place_by places) (length routines) p.bodies) (tokens_cells p.data_start (place_by places) p.tokens) jumped_is routines_is defined_is code_is
+      (bodies_cells p.data_start (place_by places) (length routines) p.bodies) (tokens_cells p.data_start (place_by places) p.tokens) (leaving_cells (has_no_go p)) jumped_is routines_is defined_is tokened_is code_is
       ∙ ap
       (λ q.
       head
@@ -333,7 +338,7 @@ module _ (library : List Nodes) (p : SourceProgram) (built : IsBuilt library p) 
       ++ (bodies_cells p.data_start (place_by places) q library
       ++ (execute_cells places.execute (length p.tokens)
       ++ (abort_cells places.abort (place_by places type_routine)
-      ++ (bodies_cells p.data_start (place_by places) (length routines) p.bodies ++ tokens_cells p.data_start (place_by places) p.tokens))))))
+      ++ (bodies_cells p.data_start (place_by places) (length routines) p.bodies ++ (tokens_cells p.data_start (place_by places) p.tokens ++ leaving_cells (has_no_go p))))))))
       after_jumps
       ∙ ap
       (λ q.
@@ -342,7 +347,7 @@ module _ (library : List Nodes) (p : SourceProgram) (built : IsBuilt library p) 
       ++ (bodies_cells p.data_start (place_by places) (library_place p) library
       ++ (execute_cells places.execute (length p.tokens)
       ++ (abort_cells places.abort (place_by places type_routine)
-      ++ (bodies_cells p.data_start (place_by places) q p.bodies ++ tokens_cells p.data_start (place_by places) p.tokens)))))) after_routines
+      ++ (bodies_cells p.data_start (place_by places) q p.bodies ++ (tokens_cells p.data_start (place_by places) p.tokens ++ leaving_cells (has_no_go p)))))))) after_routines
       ∙ ap
       (λ (f : Routine → ℕ).
       head
@@ -350,7 +355,7 @@ module _ (library : List Nodes) (p : SourceProgram) (built : IsBuilt library p) 
       ++ (bodies_cells p.data_start f (library_place p) library
       ++ (execute_cells places.execute (length p.tokens)
       ++ (abort_cells places.abort (f type_routine)
-      ++ (bodies_cells p.data_start f (first_place library p) p.bodies ++ tokens_cells p.data_start f p.tokens)))))) same
+      ++ (bodies_cells p.data_start f (first_place library p) p.bodies ++ (tokens_cells p.data_start f p.tokens ++ leaving_cells (has_no_go p)))))))) same
       ∙ ap
       (λ q.
       head
@@ -359,7 +364,7 @@ module _ (library : List Nodes) (p : SourceProgram) (built : IsBuilt library p) 
       ++ (execute_cells places.execute (length p.tokens)
       ++ (abort_cells places.abort (routine_place library p type_routine)
       ++ (bodies_cells p.data_start (routine_place library p) (first_place library p) p.bodies
-      ++ tokens_cells p.data_start (routine_place library p) p.tokens)))))) tokens
+      ++ (tokens_cells p.data_start (routine_place library p) p.tokens ++ leaving_cells (has_no_go p)))))))) tokens
       ∙ ap
       (λ q.
       head
@@ -368,7 +373,7 @@ module _ (library : List Nodes) (p : SourceProgram) (built : IsBuilt library p) 
       ++ (execute_cells q (length p.tokens)
       ++ (abort_cells places.abort (routine_place library p type_routine)
       ++ (bodies_cells p.data_start (routine_place library p) (first_place library p) p.bodies
-      ++ tokens_cells p.data_start (routine_place library p) p.tokens)))))) are.execute
+      ++ (tokens_cells p.data_start (routine_place library p) p.tokens ++ leaving_cells (has_no_go p)))))))) are.execute
       ∙ ap
       (λ q.
       head
@@ -377,7 +382,7 @@ module _ (library : List Nodes) (p : SourceProgram) (built : IsBuilt library p) 
       ++ (execute_cells (execute_place library p) (length p.tokens)
       ++ (abort_cells q (routine_place library p type_routine)
       ++ (bodies_cells p.data_start (routine_place library p) (first_place library p) p.bodies
-      ++ tokens_cells p.data_start (routine_place library p) p.tokens)))))) are.abort
+      ++ (tokens_cells p.data_start (routine_place library p) p.tokens ++ leaving_cells (has_no_go p)))))))) are.abort
       ∙ ap
       (λ xs.
       xs
@@ -386,4 +391,4 @@ module _ (library : List Nodes) (p : SourceProgram) (built : IsBuilt library p) 
       ++ (execute_cells (execute_place library p) (length p.tokens)
       ++ (abort_cells (abort_place library p) (routine_place library p type_routine)
       ++ (bodies_cells p.data_start (routine_place library p) (first_place library p) p.bodies
-      ++ tokens_cells p.data_start (routine_place library p) p.tokens)))))) (head_is ∙ ap header main)
+      ++ (tokens_cells p.data_start (routine_place library p) p.tokens ++ leaving_cells (has_no_go p)))))))) (head_is ∙ ap header main)

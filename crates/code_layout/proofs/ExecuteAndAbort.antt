@@ -14,7 +14,7 @@ use Rattle.word_table.specs.declared.word.Word.{Word}
 use Rattle.word_table.specs.declared.word.Word.TheVariants.{TypeOut, Dup, DropTop, OneMinus, ULess, Plus, TwoStar, ToR, RFrom, Store}
 use Rattle.word_table.specs.Table.{entry_of, cells_of}
 use Rattle.forth_program.specs.Tree.{Node}
-use Rattle.forth_program.specs.State.{Entry, Cell, World, State, Reply, Gives, Stops, ◌▸◌, End, Halted, InputEnded, Outside, Underflow, Unbalanced, Goes, Ends}
+use Rattle.forth_program.specs.State.{Entry, Cell, World, State, Reply, Gives, Stops, ◌▸◌, End, Halted, InputEnded, Outside, Underflow, Unbalanced, Left, Goes, Ends}
 use Rattle.forth_program.specs.Program.{SourceProgram, token_of}
 use Rattle.console_ports.specs.Ports.{access_at}
 use Rattle.forth_program.specs.Access.{store_by, store}
@@ -287,6 +287,7 @@ module _ (laws : Laws) (p : SourceProgram) (code : List ℕ) (place : ℕ → �
       aborts (Gives x w') r = typed w' r
       aborts (Stops Underflow w') r = tt
       aborts (Stops Unbalanced w') r = tt
+      aborts (Stops (Left address) w') r = tt
       aborts (Stops (Halted status) w') r = stopped (Halted status) w' r
       aborts (Stops InputEnded w') r = stopped InputEnded w' r
       aborts (Stops (Outside address) w') r = stopped (Outside address) w' r

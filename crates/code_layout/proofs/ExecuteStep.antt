@@ -11,7 +11,7 @@ use Rattle.j1_simulator.specs.OpenMachine.{rest, open_storage}
 use Rattle.j1_simulator.specs.Run.{run}
 use Rattle.forth_program.specs.Tree.{Node, Literal, Plain, Call, Child, Text, If, Until, While, Again, Do, QDo, Case, Leave, Exit}
 use Rattle.forth_program.specs.Tail.{ends_body}
-use Rattle.forth_program.specs.State.{Entry, Work, Todo, Frame, World, State, Reply, Gives, Stops, End, Halted, InputEnded, Outside, Underflow, Unbalanced, Outcome, Goes, Ends}
+use Rattle.forth_program.specs.State.{Entry, Work, Todo, Frame, World, State, Reply, Gives, Stops, End, Halted, InputEnded, Outside, Underflow, Unbalanced, Left, Outcome, Goes, Ends}
 use Rattle.forth_program.specs.Program.{SourceProgram, body_of, token_of}
 use Rattle.forth_program.specs.Form.{may_be_token}
 use Rattle.forth_program.specs.Meaning.{meaning}
@@ -47,6 +47,23 @@ token_step p Unloop c es s may = cc
 token_step p Execute c es s may = cc
 token_step p word c es s may = refl
 
+-- what stands as a token may be one
+token_may : (code : List ℕ) (place : ℕ → ℕ) (p : SourceProgram) (node : Node) (at : ℕ) → TokenStands code place p node at → may_be_token node ≡ true
+token_may code place p (Literal value) at h = refl
+token_may code place p (Plain word) at h = h.0
+token_may code place p (Call d) at h = refl
+token_may code place p (Child d address) at h = refl
+token_may code place p (Text kind address characters) at h = absurd h
+token_may code place p (If first second) at h = absurd h
+token_may code place p (Until body) at h = absurd h
+token_may code place p (While test body) at h = absurd h
+token_may code place p (Again body) at h = absurd h
+token_may code place p (Do body plus) at h = absurd h
+token_may code place p (QDo body plus) at h = absurd h
+token_may code place p (Case arms rest) at h = absurd h
+token_may code place p Leave at h = absurd h
+token_may code place p Exit at h = absurd h
+
 -- an exit is no higher than the peak
 abbrev change_low : ℤ → ℕ → Bool
 change_low (pos n) peak = nat_le n peak
@@ -75,6 +92,7 @@ module _ (laws : Laws) (p : SourceProgram) (code : List ℕ) (place : ℕ → �
     pub after : State
     pub is : o ≡ Goes after
     pub node : Node
+    pub is_token : may_be_token node ≡ true
     pub then_work : List Work
     pub work_is : after.work ≡ Todo node ∷ then_work
     pub count : ℕ
@@ -253,6 +271,7 @@ module _ (laws : Laws) (p : SourceProgram) (code : List ℕ) (place : ℕ → �
           routine_answers (Gives c' world') r = routine_returns c' world' r
           routine_answers (Stops Underflow world') r = tt
           routine_answers (Stops Unbalanced world') r = tt
+          routine_answers (Stops (Left address) world') r = tt
           routine_answers (Stops (Halted status) world') r = routine_stops (Halted status) world' r
           routine_answers (Stops InputEnded world') r = routine_stops InputEnded world' r
           routine_answers (Stops (Outside address) world') r = routine_stops (Outside address) world' r
@@ -373,6 +392,7 @@ module _ (laws : Laws) (p : SourceProgram) (code : List ℕ) (place : ℕ → �
             after = state (Todo node ∷ w) es c;
             is = refl;
             node = node;
+            is_token = token_may code place p node r.at r.stands;
             then_work = w;
             work_is = refl;
             count = 1 + r.count;

@@ -3,6 +3,7 @@ use Rattle.std.proofs.Common.{◌≡◌, ℕ, ◌+◌, ◌/◌, ◌≤◌, ◌�
 use Rattle.j1_table.specs.declared.instr.Instr.TheVariants.{Jump}
 use Rattle.j1_simulator.specs.Effect.{following}
 use Rattle.word_table.specs.declared.word.Word.{Word}
+use Rattle.word_table.specs.declared.word.Word.TheVariants.{Go}
 use Rattle.word_laws.specs.Rings.{OpenConfiguration}
 use Rattle.word_table.specs.Table.{entry_of}
 use Rattle.forth_program.specs.Tree.{Nodes, Plain, Empty, Then}
@@ -54,6 +55,12 @@ module _ (laws : Laws) (p : SourceProgram) (code : List ℕ) (place : ℕ → �
         Follows laws p code place size (standing_as (here [] es c) (machine_at code pc base data_above return_above)) (first_price f c world) now high return_high (act p f (here w es c))
         ⊎ Executes laws p code place size all (standing_as (here [] es c) (machine_at code pc base data_above return_above)) (first_price f c world) now high return_high f c es base (act p f (here w es c))
 
+    -- GO ends the run of the source
+    go_follows : (after w : List Work) (es : List Entry) (c : List ℕ) →
+        Follows laws p code place size (standing_as (here [] es c) (machine_at code pc base data_above return_above)) (word_price Go c world) now high return_high (act p (IsWord Go after) (here w es c))
+    go_follows after w es [] = tt
+    go_follows after w es (a ∷ c) = tt
+
     -- a word by its own cells, and a library word and EXECUTE by a call
     word_steps : (word : Word) (after w : List Work) (es : List Entry) (c : List ℕ) →
         Placed code place p out pc (ends_body after) (Plain word) (λ q. Stands code place p out q after) → Loops code place p out after →
@@ -70,7 +77,8 @@ module _ (laws : Laws) (p : SourceProgram) (code : List ℕ) (place : ℕ → �
         (Follows laws p code place size (standing_as (here [] es c) (machine_at code pc base data_above return_above)) (word_price word c world) now high return_high)
         (sym (library_step p word routine.number c es (here after es c) routine.is_library))
         (library_follows laws p code place size high return_high pc now out fs world fits starts base data_above return_above frames due (ends_body after) word h.0 after es c refl h.1 h.2 l n few fe fc room back))
-    word_steps word after w es c (inr h) l n few fe fc fit room back =
+    word_steps word after w es c (inr (inr h)) l n few fe fc fit room back = subst (λ x. Stepped (IsWord x after) w es c) (sym h.0) (inl (go_follows after w es c))
+    word_steps word after w es c (inr (inl h)) l n few fe fc fit room back =
         subst (λ x. length c + (entry_of x).peak ≤ high → length (return_places es base) + (entry_of x).back ≤ return_high → Stepped (IsWord x after) w es c) (sym h.0)
         (λ room back. execute_follows laws p code place size all high return_high pc now out fs world fits starts base data_above return_above frames due (ends_body after) h.1 after es c refl h.2 h.3 l n few fe fc room back) room back
 

@@ -1,5 +1,5 @@
 -- The image of a program: its code, and where the machine and the source begin.
-use Rattle.std.proofs.Common.{◌≡◌, ℕ, zero, suc, ◌+◌, ◌-◌, ◌/◌, ◌<◌, ◌≤◌, Bool, true, false, List, [], ◌∷◌, ◌++◌, length, replicate, slice_index, Some, None, refl, ap, ◌∙◌, length-append, arith}
+use Rattle.std.proofs.Common.{◌≡◌, ℕ, zero, suc, ◌+◌, ◌-◌, ◌/◌, ◌<◌, ◌≤◌, Bool, true, false, ◌&&◌, List, [], ◌∷◌, ◌++◌, length, replicate, slice_index, Some, None, refl, ap, ◌∙◌, subst, length-append, arith}
 use Rattle.std.specs.Prelude.{slice_index_or}
 use Rattle.std.specs.List.{list_all}
 use Rattle.std.proofs.lemmas.List.{length-replicate}
@@ -9,29 +9,30 @@ use Rattle.j1_table.specs.declared.instr.Instr.TheVariants.{Call as CallTo}
 use Rattle.j1_table.specs.Instruction.{decoded}
 use Rattle.j1_simulator.specs.OpenMachine.{blank}
 use Rattle.j1_simulator.specs.Run.{begun, open_start}
-use Rattle.forth_program.specs.Tree.{Node, Nodes, Empty}
+use Rattle.forth_program.specs.Tree.{Node, Nodes, Plain, Empty}
 use Rattle.forth_program.specs.Program.{SourceProgram}
-use Rattle.forth_program.specs.Form.{everywhere, leaves_fit}
+use Rattle.forth_program.specs.Form.{everywhere, leaves_fit, is_not_go, has_no_go}
 use Rattle.console_ports.specs.DataSpace.{IsDataStart}
 use Rattle.forth_program.specs.Step.{before}
 use Rattle.forth_program.specs.Run.{first_world, first_state}
 use Rattle.forth_program.specs.Cells.{IsWorld}
 use Rattle.word_table.specs.declared.word.Word.{Word}
-use Rattle.word_table.specs.declared.word.Word.TheVariants.{TypeOut}
+use Rattle.word_table.specs.declared.word.Word.TheVariants.{Go, TypeOut}
 use Rattle.word_laws.specs.Control.{HoldsInstruction, halt_cells}
 use Rattle.word_laws.specs.Standing.{standing_as, StandIn, machine_at}
-use Rattle.code_layout.specs.Layout.{Routine, Definition, Library, Executing, Aborting, type_routine, return_cell, reaches_end, cell_if, size, body_size}
-use Rattle.code_layout.specs.Layout.{nodes_cells, body_cells, bodies_cells, begins_at, bodies_size, execute_cells, abort_cells, tokens_cells, token_size}
-use Rattle.code_layout.specs.Layout.{token_jumps, library_place, execute_place, abort_place, first_place, tokens_place, routine_place, laid_out}
+use Rattle.code_layout.specs.Layout.{Routine, Definition, Library, Executing, Aborting, Leaving, type_routine, return_cell, reaches_end, cell_if, size, body_size}
+use Rattle.code_layout.specs.Layout.{nodes_cells, body_cells, bodies_cells, begins_at, bodies_size, execute_cells, abort_cells, tokens_cells, token_size, tokens_size, leaving_cells, leaving_size}
+use Rattle.code_layout.specs.Layout.{token_jumps, library_place, execute_place, abort_place, first_place, tokens_place, leaving_place, routine_place, laid_out}
 use Rattle.code_layout.specs.Numbering.{library_number}
 use Rattle.forth_program.specs.SourceTokens.{tokens_of, all_tokens}
 use Rattle.code_layout.specs.Built.{is_laid_out, IsBuilt}
 use Rattle.code_layout.specs.Agreement.{AreBytes, code_of}
 use Rattle.code_layout.proofs.Routines.{IsRoutine, IsAborter}
-use Rattle.code_layout.proofs.Work.{Returns, IsExecutor, Stands, stands_before}
+use Rattle.code_layout.proofs.Work.{Returns, IsExecutor, IsLeaver, Stands, stands_before}
 use Rattle.code_layout.proofs.Machine.{Laws, both}
 use Rattle.code_layout.proofs.Steps.{AllStand}
-use Rattle.code_layout.proofs.LaidCode.{decode_call, size_is, body_size_is, cut, holds_if, all_placed, tokens_stand}
+use Rattle.code_layout.proofs.LaidCode.{decode_call, size_is, body_size_is, cut, holds_if, all_placed, tokens_stand, tokens_size_is, leaving_size_is}
+use Rattle.code_layout.proofs.Everywhere.{everywhere_both}
 use Rattle.code_layout.proofs.ExecuteAndAbort.{is_aborter, is_executor}
 
 -- ---- cells of bytes
@@ -110,13 +111,14 @@ module _ (data_start : ℕ) (code : List ℕ) (place : Routine → ℕ) where
 
 module _ (code : List ℕ) (place : Routine → ℕ) where
   module _ (p : SourceProgram) (executes : Bool) (words : ℕ) (routine : (word : Word) (number : ℕ) → library_number word ≡ Some number → number < words → IsRoutine p.data_start code word (place (Library number)))
-      (executor : executes ≡ true → IsExecutor code (λ d. place (Definition d)) p (place Executing)) (aborter : executes ≡ true → 34 < words → IsAborter p.data_start code (place Aborting)) (low : (r : Routine) → place r < 8192) where
+      (executor : executes ≡ true → IsExecutor code (λ d. place (Definition d)) p (place Executing)) (aborter : executes ≡ true → 34 < words → IsAborter p.data_start code (place Aborting)) (low : (r : Routine) → place r < 8192)
+      (test : Node → Bool) (laid_by : (node : Node) → test node ≡ true → is_laid_out executes words (length p.bodies) node ≡ true) (leaver : test (Plain Go) ≡ true → IsLeaver code (λ d. place (Definition d)) p (place Leaving)) where
     -- a body whose code stands is laid out as work
-    pub body_stands : (at : ℕ) (body : Nodes) → BodyCode p.data_start code place at body → everywhere (is_laid_out executes words (length p.bodies)) body ≡ true → leaves_fit false body ≡ true → tokens_of body ≤ p.source_tokens →
+    pub body_stands : (at : ℕ) (body : Nodes) → BodyCode p.data_start code place at body → everywhere test body ≡ true → leaves_fit false body ≡ true → tokens_of body ≤ p.source_tokens →
         Stands code (λ d. place (Definition d)) p None at (before body [])
     body_stands at body b items leaves few =
         stands_before code (λ d. place (Definition d)) p body None at [] (Returns code (λ d. place (Definition d)) p) (λ q k. k)
-        (all_placed code place p executes words routine executor aborter low body true false None 0 at (Returns code (λ d. place (Definition d)) p)
+        (all_placed code place p executes words routine executor aborter low test laid_by leaver body true false None 0 at (Returns code (λ d. place (Definition d)) p)
         (items, leaves) (λ e. absurd (let f : false ≡ true = e in cc)) (omega arith) b.cells_stand b.low b.returns) (omega (arith, few))
 
 -- what holds of all bodies holds of one
@@ -185,10 +187,13 @@ module _ (laws : Laws) (library : List Nodes) (p : SourceProgram) (built : IsBui
   abbrev of_tokens : List ℕ
   of_tokens = tokens_cells p.data_start (routine_place library p) p.tokens
 
+  abbrev of_leaving : List ℕ
+  of_leaving = leaving_cells (has_no_go p)
+
   last : ℕ
   last = length (laid_out library p).cells
 
-  short : tokens_place library p + length (tokens_cells p.data_start (routine_place library p) p.tokens) ≤ 8000
+  short : tokens_place library p + length (tokens_cells p.data_start (routine_place library p) p.tokens) + leaving_size (has_no_go p) ≤ 8000
   short =
       let few = built.code_fits in
       let most = built.data_start.at_most in
@@ -196,9 +201,11 @@ module _ (laws : Laws) (library : List Nodes) (p : SourceProgram) (built : IsBui
         arith,
         few,
         most,
-        length-append jumps (of_library ++ (of_execute ++ (of_abort ++ (of_program ++ of_tokens)))),
-        length-append of_library (of_execute ++ (of_abort ++ (of_program ++ of_tokens))),
-        length-append of_program of_tokens,
+        length-append jumps (of_library ++ (of_execute ++ (of_abort ++ (of_program ++ (of_tokens ++ of_leaving))))),
+        length-append of_library (of_execute ++ (of_abort ++ (of_program ++ (of_tokens ++ of_leaving)))),
+        length-append of_program (of_tokens ++ of_leaving),
+        length-append of_tokens of_leaving,
+        leaving_size_is (has_no_go p),
         jumps_length (routine_place library p) (tokens_place library p) p.tokens,
         bodies_size_is p.data_start (routine_place library p) (library_place p) library,
         bodies_size_is p.data_start (routine_place library p) (first_place library p) p.bodies,
@@ -209,6 +216,7 @@ module _ (laws : Laws) (library : List Nodes) (p : SourceProgram) (built : IsBui
   low (Library number) = let h = short in begins_low (library_place p) 0 library number (omega arith)
   low Executing = let h = short in omega arith
   low Aborting = let h = short in omega arith
+  low Leaving = let h = short in omega (arith, tokens_size_is p.data_start (routine_place library p) p.tokens)
 
   image_stands : StandIn (code_of library p) 0 (laid_out library p).cells (0 + length (laid_out library p).cells)
   image_stands = let few = built.code_fits in let most = built.data_start.at_most in laws.cells_stand [] (laid_out library p).cells (replicate (p.data_start / 2 - length (laid_out library p).cells) 0) (omega (arith, few, most))
@@ -223,28 +231,40 @@ module _ (laws : Laws) (library : List Nodes) (p : SourceProgram) (built : IsBui
   end = 0 + length (laid_out library p).cells
 
   -- the parts of the image one after the other
-  pub jumps_stand : StandIn (code_of library p) 8 jumps (library_place p) × StandIn (code_of library p) (library_place p) (of_library ++ (of_execute ++ (of_abort ++ (of_program ++ of_tokens)))) end
+  pub jumps_stand : StandIn (code_of library p) 8 jumps (library_place p) × StandIn (code_of library p) (library_place p) (of_library ++ (of_execute ++ (of_abort ++ (of_program ++ (of_tokens ++ of_leaving))))) end
   jumps_stand =
       let h = short in
-      cut (code_of library p) 8 (length p.tokens) jumps (of_library ++ (of_execute ++ (of_abort ++ (of_program ++ of_tokens)))) end
+      cut (code_of library p) 8 (length p.tokens) jumps (of_library ++ (of_execute ++ (of_abort ++ (of_program ++ (of_tokens ++ of_leaving))))) end
       (jumps_length (routine_place library p) (tokens_place library p) p.tokens) (omega arith) image_stands.2.2.2.2.2.2.2.2
 
-  library_stands : StandIn (code_of library p) (library_place p) of_library (execute_place library p) × StandIn (code_of library p) (execute_place library p) (of_execute ++ (of_abort ++ (of_program ++ of_tokens))) end
+  library_stands : StandIn (code_of library p) (library_place p) of_library (execute_place library p) × StandIn (code_of library p) (execute_place library p) (of_execute ++ (of_abort ++ (of_program ++ (of_tokens ++ of_leaving)))) end
   library_stands =
       let h = short in
-      cut (code_of library p) (library_place p) (bodies_size library) of_library (of_execute ++ (of_abort ++ (of_program ++ of_tokens))) end
+      cut (code_of library p) (library_place p) (bodies_size library) of_library (of_execute ++ (of_abort ++ (of_program ++ (of_tokens ++ of_leaving)))) end
       (bodies_size_is p.data_start (routine_place library p) (library_place p) library) (omega arith) jumps_stand.1
 
-  pub execute_stands : StandIn (code_of library p) (execute_place library p) of_execute (abort_place library p) × StandIn (code_of library p) (abort_place library p) (of_abort ++ (of_program ++ of_tokens)) end
-  execute_stands = let h = short in cut (code_of library p) (execute_place library p) 15 of_execute (of_abort ++ (of_program ++ of_tokens)) end refl (omega arith) library_stands.1
+  pub execute_stands : StandIn (code_of library p) (execute_place library p) of_execute (abort_place library p) × StandIn (code_of library p) (abort_place library p) (of_abort ++ (of_program ++ (of_tokens ++ of_leaving))) end
+  execute_stands = let h = short in cut (code_of library p) (execute_place library p) 15 of_execute (of_abort ++ (of_program ++ (of_tokens ++ of_leaving))) end refl (omega arith) library_stands.1
 
-  pub abort_stands : StandIn (code_of library p) (abort_place library p) of_abort (first_place library p) × StandIn (code_of library p) (first_place library p) (of_program ++ of_tokens) end
-  abort_stands = let h = short in cut (code_of library p) (abort_place library p) 15 of_abort (of_program ++ of_tokens) end refl (omega arith) execute_stands.1
+  pub abort_stands : StandIn (code_of library p) (abort_place library p) of_abort (first_place library p) × StandIn (code_of library p) (first_place library p) (of_program ++ (of_tokens ++ of_leaving)) end
+  abort_stands = let h = short in cut (code_of library p) (abort_place library p) 15 of_abort (of_program ++ (of_tokens ++ of_leaving)) end refl (omega arith) execute_stands.1
 
-  pub program_stands : StandIn (code_of library p) (first_place library p) of_program (tokens_place library p) × StandIn (code_of library p) (tokens_place library p) of_tokens end
+  pub program_stands : StandIn (code_of library p) (first_place library p) of_program (tokens_place library p) × StandIn (code_of library p) (tokens_place library p) (of_tokens ++ of_leaving) end
   program_stands =
       let h = short in
-      cut (code_of library p) (first_place library p) (bodies_size p.bodies) of_program of_tokens end (bodies_size_is p.data_start (routine_place library p) (first_place library p) p.bodies) (omega arith) abort_stands.1
+      cut (code_of library p) (first_place library p) (bodies_size p.bodies) of_program (of_tokens ++ of_leaving) end (bodies_size_is p.data_start (routine_place library p) (first_place library p) p.bodies) (omega arith) abort_stands.1
+
+  token_code_stands : StandIn (code_of library p) (tokens_place library p) of_tokens (leaving_place library p) × StandIn (code_of library p) (leaving_place library p) of_leaving end
+  token_code_stands =
+      let h = short in
+      let size = tokens_size_is p.data_start (routine_place library p) p.tokens in
+      cut (code_of library p) (tokens_place library p) (tokens_size p.tokens) of_tokens of_leaving end size (omega (arith, h, size)) program_stands.1
+
+  -- the code of GO, where some body has it
+  leaves : has_no_go p ≡ false → IsLeaver (code_of library p) definitions p (leaving_place library p)
+  leaves used =
+      let h = subst (λ lacking. StandIn (code_of library p) (leaving_place library p) (leaving_cells lacking) end) used token_code_stands.1 in
+      (h.0, h.1, (ap decoded h.2.0, h.2.1))
 
   pub library_code : (number : ℕ) → number < length library → BodyCode p.data_start (code_of library p) (routine_place library p) (routine_place library p (Library number)) (slice_index_or library number Empty)
   library_code number lt =
@@ -277,17 +297,41 @@ module _ (laws : Laws) (library : List Nodes) (p : SourceProgram) (built : IsBui
       let h = short in
       is_executor laws p (code_of library p) definitions code_size (execute_place library p) (length p.tokens) (abort_place library p) execute_stands.0 (omega arith) (omega arith) refl
       (tokens_stand (code_of library p) (routine_place library p) p false (length library) routine (λ e. absurd (let f : false ≡ true = e in cc))
-      (λ e. absurd (let f : false ≡ true = e in cc)) low p.tokens 8 (tokens_place library p) (library_place p) end built.token_items jumps_stand.0
-      program_stands.1 (omega arith) (omega arith))
+      (λ e. absurd (let f : false ≡ true = e in cc)) low (is_laid_out false (length library) (length p.bodies)) (λ node e. e) (λ e. absurd (let f : false ≡ true = e in cc)) p.tokens 8 (tokens_place library p) (library_place p)
+      (leaving_place library p) built.token_items jumps_stand.0 token_code_stands.0 (omega arith) (omega arith))
+
+  abbrev Routines : Type 0
+  Routines = (word : Word) (number : ℕ) → library_number word ≡ Some number → number < length library → IsRoutine p.data_start (code_of library p) word (routine_place library p (Library number))
+
+  -- what is asked of the items of definitions: where no body has GO, also that they are not GO
+  abbrev laid : Node → Bool
+  laid = is_laid_out true (length library) (length p.bodies)
+
+  abbrev test_by : Bool → Node → Bool
+  test_by true node = laid node && is_not_go node
+  test_by false node = laid node
+
+  test_laid : (lacking : Bool) (node : Node) → test_by lacking node ≡ true → laid node ≡ true
+  test_laid true node e = (both (laid node) (is_not_go node) e).0
+  test_laid false node e = e
+
+  test_leaves : (lacking : Bool) → has_no_go p ≡ lacking → test_by lacking (Plain Go) ≡ true → IsLeaver (code_of library p) definitions p (leaving_place library p)
+  test_leaves true e f = absurd (let g = (both (laid (Plain Go)) (is_not_go (Plain Go)) f).1 in let h : false ≡ true = g in cc)
+  test_leaves false e f = leaves e
+
+  tested : (lacking : Bool) → has_no_go p ≡ lacking → (d : ℕ) → d < length p.bodies → everywhere (test_by lacking) (slice_index_or p.bodies d Empty) ≡ true
+  tested true e d lt = everywhere_both laid is_not_go (slice_index_or p.bodies d Empty) (test_of (everywhere laid) p.bodies d built.items lt) (test_of (everywhere is_not_go) p.bodies d e lt)
+  tested false e d lt = test_of (everywhere laid) p.bodies d built.items lt
 
   -- every definition stands, where the library's routines do
-  pub all_stand :
-      ((word : Word) (number : ℕ) → library_number word ≡ Some number → number < length library →
-      IsRoutine p.data_start (code_of library p) word (routine_place library p (Library number))) → AllStand laws p (code_of library p) definitions code_size
-  all_stand routine = record {
+  stand_by : (lacking : Bool) → has_no_go p ≡ lacking → Routines → AllStand laws p (code_of library p) definitions code_size
+  stand_by lacking e routine = record {
     halt = halt_stands;
     bodies = λ d lt.
-        body_stands (code_of library p) (routine_place library p) p true (length library) routine (λ e. executes routine) (λ e. aborts routine) low (definitions d) (slice_index_or p.bodies d Empty) (program_code d lt)
-        (test_of (everywhere (is_laid_out true (length library) (length p.bodies))) p.bodies d built.items lt) (test_of (leaves_fit false) p.bodies d built.leaves_in_loops lt)
+        body_stands (code_of library p) (routine_place library p) p true (length library) routine (λ e. executes routine) (λ e. aborts routine) low (test_by lacking) (test_laid lacking) (test_leaves lacking e) (definitions d)
+        (slice_index_or p.bodies d Empty) (program_code d lt) (tested lacking e d lt) (test_of (leaves_fit false) p.bodies d built.leaves_in_loops lt)
         (let counted = built.tokens_counted in omega (arith, counted, tokens_within p.bodies d lt));
   }
+
+  pub all_stand : Routines → AllStand laws p (code_of library p) definitions code_size
+  all_stand routine = stand_by (has_no_go p) refl routine

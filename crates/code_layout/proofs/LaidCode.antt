@@ -9,7 +9,7 @@ use Rattle.j1_table.specs.declared.instr.Instr.TheVariants.{Jump, Branch, Call a
 use Rattle.j1_table.specs.Instruction.{decoded}
 use Rattle.j1_simulator.specs.Effect.{following}
 use Rattle.word_table.specs.declared.word.Word.{Word}
-use Rattle.word_table.specs.declared.word.Word.TheVariants.{Base, Here, Decimal, Hex, Execute, TypeOut}
+use Rattle.word_table.specs.declared.word.Word.TheVariants.{Base, Here, Decimal, Hex, Execute, Go, TypeOut}
 use Rattle.forth_program.specs.declared.item.TextKind.{TextKind}
 use Rattle.forth_program.specs.declared.item.TextKind.TheVariants as text
 use Rattle.word_table.specs.Table.{cells_of, cells_from}
@@ -22,8 +22,8 @@ use Rattle.word_laws.specs.Numbers.{number_cells}
 use Rattle.word_laws.specs.Standing.{StandIn}
 use Rattle.word_laws.specs.Words.{stands_plain}
 use Rattle.code_layout.specs.Numbering.{library_number}
-use Rattle.code_layout.specs.Layout.{Routine, Definition, Library, Executing, Aborting, routine_of, numbered, word_falls_through, text_falls_through, word_size}
-use Rattle.code_layout.specs.Layout.{text_size, word_cells, text_cells, word_token_cells, word_token_size, word_token_place, token_cells, token_size}
+use Rattle.code_layout.specs.Layout.{Routine, Definition, Library, Executing, Aborting, Leaving, routine_of, numbered, word_falls_through, text_falls_through, word_size}
+use Rattle.code_layout.specs.Layout.{text_size, word_cells, text_cells, word_token_cells, word_token_size, word_token_place, token_cells, token_size, tokens_size, leaving_cells, leaving_size}
 use Rattle.code_layout.specs.Layout.{tokens_cells, token_place, token_jumps, jump_to, branch_to, call_to, call_cell, return_cell, do_cells, loop_cells}
 use Rattle.code_layout.specs.Layout.{plus_loop_cells, out_cells, turn_cells, turn_size, q_do_cells, of_cells, end_case_cells, falls_through, reaches_end}
 use Rattle.code_layout.specs.Layout.{cell_if, size_if, else_size, node_size, size, arms_size, body_size, else_place, while_place, out_place, arm_place}
@@ -31,7 +31,7 @@ use Rattle.code_layout.specs.Layout.{others_place, else_cells, loop_code, arm_co
 use Rattle.code_layout.specs.Built.{word_is_laid_out, text_is_laid_out, is_laid_out, token_is_laid_out}
 use Rattle.code_layout.proofs.Machine.{both}
 use Rattle.code_layout.proofs.Routines.{IsRoutine, IsAborter}
-use Rattle.code_layout.proofs.Work.{Returns, TokenStands, IsExecutor, PlainStands, ExecuteStands, TextStands, TurnStands, CallStands, LoopStands, SkipStands, LastStands, OfStands, Placed, AllPlaced, ArmsPlaced}
+use Rattle.code_layout.proofs.Work.{Returns, TokenStands, IsExecutor, PlainStands, ExecuteStands, IsLeaver, GoStands, TextStands, TurnStands, CallStands, LoopStands, SkipStands, LastStands, OfStands, Placed, AllPlaced, ArmsPlaced}
 
 pub decode_jump : (a : ℕ) → a < 8192 → decoded (jump_to a) ≡ Jump a
 decode_jump a h = grind (arith, nat_tests)
@@ -81,11 +81,16 @@ number_of word number is = cc
 -- the routine of a token's word
 routine_is : (word : Word) → may_be_token (Plain word) ≡ true → routine_of word ≡ numbered (library_number word)
 routine_is Execute may = cc
+routine_is Go may = cc
 routine_is word may = refl
 
 is_execute : (word : Word) → routine_of word ≡ Some Executing → word ≡ Execute
 is_execute Execute is = refl
 is_execute word is = cc
+
+is_go : (word : Word) → routine_of word ≡ Some Leaving → word ≡ Go
+is_go Go is = refl
+is_go word is = cc
 
 -- a loop and an arm, by the sizes of what is in them
 loop_size_is : (at : ℕ) (body : Nodes) (plus : Bool) (inner : List ℕ) → length inner ≡ size false true body → length (loop_code at body plus inner) ≡ 8 + size false true body + turn_size plus + 4
@@ -198,6 +203,17 @@ token_size_is (Child d address) data_start place = length-append (number_cells a
 token_size_is (Plain word) data_start place = word_token_size_is (library_number word) word data_start
 token_size_is node data_start place = refl
 
+pub tokens_size_is : (data_start : ℕ) (place : Routine → ℕ) (tokens : List Node) → length (tokens_cells data_start place tokens) ≡ tokens_size tokens
+tokens_size_is data_start place [] = refl
+tokens_size_is data_start place (node ∷ tokens) = length-append (token_cells data_start place node) (tokens_cells data_start place tokens) ∙ two_sums (token_size_is node data_start place) (tokens_size_is data_start place tokens)
+  where
+    two_sums : {a b c d : ℕ} → a ≡ b → c ≡ d → a + c ≡ b + d
+    two_sums e f = cc
+
+pub leaving_size_is : (lacking : Bool) → length (leaving_cells lacking) ≡ leaving_size lacking
+leaving_size_is true = refl
+leaving_size_is false = refl
+
 pub either : (a b : Bool) → b ≡ true → (a || b) ≡ true
 either true b e = refl
 either false b e = e
@@ -224,7 +240,8 @@ module _ (code : List ℕ) where
   holds_if false pc cell instruction next e h d = absurd (let f : false ≡ true = e in cc)
 
   module _ (place : Routine → ℕ) (p : SourceProgram) (executes : Bool) (words : ℕ) (routine : (word : Word) (number : ℕ) → library_number word ≡ Some number → number < words → IsRoutine p.data_start code word (place (Library number)))
-      (executor : executes ≡ true → IsExecutor code (λ d. place (Definition d)) p (place Executing)) (aborter : executes ≡ true → 34 < words → IsAborter p.data_start code (place Aborting)) (low : (r : Routine) → place r < 8192) where
+      (executor : executes ≡ true → IsExecutor code (λ d. place (Definition d)) p (place Executing)) (aborter : executes ≡ true → 34 < words → IsAborter p.data_start code (place Aborting)) (low : (r : Routine) → place r < 8192)
+      (test : Node → Bool) (laid_by : (node : Node) → test node ≡ true → is_laid_out executes words (length p.bodies) node ≡ true) (leaver : test (Plain Go) ≡ true → IsLeaver code (λ d. place (Definition d)) p (place Leaving)) where
     -- where definitions begin
     abbrev definitions : ℕ → ℕ
     definitions d = place (Definition d)
@@ -238,15 +255,16 @@ module _ (code : List ℕ) where
     call_stands true r at K h n k = holds at (jump_to (place r)) (Jump (place r)) [] (at + 1) h (decode_jump (place r) (low r))
     call_stands false r at K h n k = (holds at (call_to (place r)) (CallTo (place r)) [] (at + 1) h (decode_call (place r) (low r)), subst K (sym (next_is at n)) (k refl))
 
-    word_placed : (word : Word) (found : Option Routine) (tail : Bool) (at : ℕ) (K : ℕ → Type 0) → routine_of word ≡ found →
+    word_placed : (word : Word) (found : Option Routine) (tail : Bool) (at : ℕ) (K : ℕ → Type 0) → routine_of word ≡ found → test (Plain word) ≡ true →
         word_is_laid_out executes words found word ≡ true → StandIn code at (word_cells p.data_start place tail found word) (at + word_size found word) →
         at + word_size found word < 8192 →
-        (word_falls_through found tail ≡ true → K (at + word_size found word)) → PlainStands code definitions p tail at word K ⊎ ExecuteStands code definitions p tail at word K
-    word_placed word None tail at K is fit h n k = inl (inl (at + length (cells_of word), fit, h, k refl))
-    word_placed word (Some (Library number)) tail at K is fit h n k = inl (inr (place (Library number), call_stands tail (Library number) at K h n k, routine word number (number_of word number is) (let e = fit in grind (arith, nat_tests))))
-    word_placed word (Some Executing) tail at K is fit h n k = inr (is_execute word is, place Executing, call_stands tail Executing at K h n k, executor fit)
-    word_placed word (Some (Definition d)) tail at K is fit h n k = absurd (let f : false ≡ true = fit in cc)
-    word_placed word (Some Aborting) tail at K is fit h n k = absurd (let f : false ≡ true = fit in cc)
+        (word_falls_through found tail ≡ true → K (at + word_size found word)) → PlainStands code definitions p tail at word K ⊎ (ExecuteStands code definitions p tail at word K ⊎ GoStands code definitions p tail at word K)
+    word_placed word None tail at K is may fit h n k = inl (inl (at + length (cells_of word), fit, h, k refl))
+    word_placed word (Some (Library number)) tail at K is may fit h n k = inl (inr (place (Library number), call_stands tail (Library number) at K h n k, routine word number (number_of word number is) (let e = fit in grind (arith, nat_tests))))
+    word_placed word (Some Executing) tail at K is may fit h n k = inr (inl (is_execute word is, place Executing, call_stands tail Executing at K h n k, executor fit))
+    word_placed word (Some Leaving) tail at K is may fit h n k = inr (inr (is_go word is, place Leaving, call_stands tail Leaving at K h n k, leaver (subst (λ w. test (Plain w) ≡ true) (is_go word is) may)))
+    word_placed word (Some (Definition d)) tail at K is may fit h n k = absurd (let f : false ≡ true = fit in cc)
+    word_placed word (Some Aborting) tail at K is may fit h n k = absurd (let f : false ≡ true = fit in cc)
 
     text_placed : (kind : TextKind) (tail : Bool) (at : ℕ) (K : ℕ → Type 0) → executes ≡ true → text_is_laid_out words kind ≡ true →
         StandIn code at (text_cells place tail kind) (at + text_size kind) → at + text_size kind < 8192 →
@@ -270,35 +288,34 @@ module _ (code : List ℕ) where
         (at + 17, c.0, holds (at + 17) (branch_to body_at) (Branch body_at) more next c.1 (decode_branch body_at lt), (let f : following (at + 17) ≡ out_at = omega (arith, e) in f))
 
     abbrev Fits : Bool → Node → Type 0
-    Fits in_do node = (is_laid_out executes words (length p.bodies) node ≡ true) × (inside (is_laid_out executes words (length p.bodies)) node ≡ true) × (leave_fits in_do node ≡ true)
+    Fits in_do node = (test node ≡ true) × (inside test node ≡ true) × (leave_fits in_do node ≡ true)
 
     abbrev AllFit : Bool → Nodes → Type 0
-    AllFit in_do nodes = (everywhere (is_laid_out executes words (length p.bodies)) nodes ≡ true) × (leaves_fit in_do nodes ≡ true)
+    AllFit in_do nodes = (everywhere test nodes ≡ true) × (leaves_fit in_do nodes ≡ true)
 
     abbrev ArmsFit : Bool → Arms → Type 0
-    ArmsFit in_do arms = (in_arms (is_laid_out executes words (length p.bodies)) arms ≡ true) × (arms_fit in_do arms ≡ true)
+    ArmsFit in_do arms = (in_arms test arms ≡ true) × (arms_fit in_do arms ≡ true)
 
     -- the parts of an item fit
     two_fit : (in_do : Bool) (first second : Nodes) →
-        (everywhere (is_laid_out executes words (length p.bodies)) first && everywhere (is_laid_out executes words (length p.bodies)) second) ≡ true →
+        (everywhere test first && everywhere test second) ≡ true →
         (leaves_fit in_do first && leaves_fit in_do second) ≡ true → AllFit in_do first × AllFit in_do second
     two_fit in_do first second e f =
-        let items = both (everywhere (is_laid_out executes words (length p.bodies)) first) (everywhere (is_laid_out executes words (length p.bodies)) second) e in
+        let items = both (everywhere test first) (everywhere test second) e in
         let leaves = both (leaves_fit in_do first) (leaves_fit in_do second) f in
         ((items.0, leaves.0), (items.1, leaves.1))
 
     list_fits : (in_do : Bool) (node : Node) (rest : Nodes) → AllFit in_do (Then node rest) → Fits in_do node × AllFit in_do rest
     list_fits in_do node rest fit =
-        let more = both (is_laid_out executes words (length p.bodies) node && inside (is_laid_out executes words (length p.bodies)) node) (everywhere (is_laid_out executes words (length p.bodies)) rest) fit.0 in
-        let one = both (is_laid_out executes words (length p.bodies) node) (inside (is_laid_out executes words (length p.bodies)) node) more.0 in
+        let more = both (test node && inside test node) (everywhere test rest) fit.0 in
+        let one = both (test node) (inside test node) more.0 in
         let leaves = both (leave_fits in_do node) (leaves_fit in_do rest) fit.1 in
         ((one.0, one.1, leaves.0), (more.1, leaves.1))
 
     arm_fits : (in_do : Bool) (tests body : Nodes) (others : Arms) → ArmsFit in_do (Arm tests body others) → AllFit in_do tests × AllFit in_do body × ArmsFit in_do others
     arm_fits in_do tests body others fit =
-        let laid = is_laid_out executes words (length p.bodies) in
-        let a = both (everywhere laid tests && everywhere laid body) (in_arms laid others) fit.0 in
-        let b = both (everywhere laid tests) (everywhere laid body) a.0 in
+        let a = both (everywhere test tests && everywhere test body) (in_arms test others) fit.0 in
+        let b = both (everywhere test tests) (everywhere test body) a.0 in
         let c = both (leaves_fit in_do tests && leaves_fit in_do body) (arms_fit in_do others) fit.1 in
         let d = both (leaves_fit in_do tests) (leaves_fit in_do body) c.0 in
         ((b.0, d.0), (b.1, d.1), (a.1, c.1))
@@ -368,13 +385,13 @@ module _ (code : List ℕ) where
       placed : (node : Node) (tail in_do : Bool) (out : Option ℕ) (out_at at : ℕ) (K : ℕ → Type 0) → Fits in_do node → (in_do ≡ true → out ≡ Some out_at) → out_at < 8192 →
           StandIn code at (node_cells p.data_start place out_at at tail true node) (at + node_size tail true node) → at + node_size tail true node < 8192 →
           (falls_through tail node ≡ true → K (at + node_size tail true node)) → Placed code definitions p out at tail node K
-      placed (Literal value) tail in_do out out_at at K fit inner lt h n k = (at + length (number_cells value), (let e = fit.0 in grind (arith, nat_tests)), h, k refl)
-      placed (Plain word) tail in_do out out_at at K fit inner lt h n k = word_placed word (routine_of word) tail at K refl fit.0 h n k
-      placed (Call d) tail in_do out out_at at K fit inner lt h n k = ((let e = fit.0 in grind (arith, nat_tests)), call_stands tail (Definition d) at K h n k)
+      placed (Literal value) tail in_do out out_at at K fit inner lt h n k = (at + length (number_cells value), (let e = laid_by (Literal value) fit.0 in grind (arith, nat_tests)), h, k refl)
+      placed (Plain word) tail in_do out out_at at K fit inner lt h n k = word_placed word (routine_of word) tail at K refl fit.0 (laid_by (Plain word) fit.0) h n k
+      placed (Call d) tail in_do out out_at at K fit inner lt h n k = ((let e = laid_by (Call d) fit.0 in grind (arith, nat_tests)), call_stands tail (Definition d) at K h n k)
       placed (Child d address) tail in_do out out_at at K fit inner lt h n k =
           let next = at + length (number_cells address) in
           let last = at + (length (number_cells address) + 1) in
-          let fits = both (nat_lt d (length p.bodies)) (nat_lt address 0x8000) fit.0 in
+          let fits = both (nat_lt d (length p.bodies)) (nat_lt address 0x8000) (laid_by (Child d address) fit.0) in
           let c = cut at (length (number_cells address)) (number_cells address) (call_cell tail (place (Definition d)) ∷ []) last refl (omega (arith, n)) h in
           let e : last ≡ next + 1 = omega arith in record {
             next = next;
@@ -388,7 +405,7 @@ module _ (code : List ℕ) where
           let next = at + length (number_cells address) + length (number_cells characters) in
           let last = at + (length (number_cells address) + length (number_cells characters) + text_size kind) in
           let after = number_cells characters ++ text_cells place tail kind in
-          let all = both (executes && text_is_laid_out words kind && nat_lt address 0x8000) (nat_lt characters 0x8000) fit.0 in
+          let all = both (executes && text_is_laid_out words kind && nat_lt address 0x8000) (nat_lt characters 0x8000) (laid_by (Text kind address characters) fit.0) in
           let three = both (executes && text_is_laid_out words kind) (nat_lt address 0x8000) all.0 in
           let two = both executes (text_is_laid_out words kind) three.0 in
           let c = cut at (length (number_cells address)) (number_cells address) after last refl (omega (arith, n)) h in
@@ -516,7 +533,7 @@ module _ (code : List ℕ) where
           let drop_at = rest_at + size false true rest in
           let end_at = at + arms_size tail arms + size false true rest + 1 in
           let rest_code = cells_at out_at rest_at false rest in
-          let items = both (in_arms (is_laid_out executes words (length p.bodies)) arms) (everywhere (is_laid_out executes words (length p.bodies)) rest) fit.1 in
+          let items = both (in_arms test arms) (everywhere test rest) fit.1 in
           let leaves = both (arms_fit in_do arms) (leaves_fit in_do rest) fit.2 in
           let e : last ≡ end_at = omega arith in
           let c = cut at (arms_size tail arms) (arms_cells p.data_start place out_at at tail end_at arms) (rest_code ++ end_case_cells) last (arms_size_is arms p.data_start place out_at at tail end_at) (omega (arith, n)) h in

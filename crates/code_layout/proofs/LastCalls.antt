@@ -1,27 +1,27 @@
 -- Last calls are jumps: no call of an image stands before a return.
-use Rattle.std.proofs.Common.{◌≡◌, ℕ, zero, suc, ◌+◌, ◌<◌, ◌≤◌, inl, inr, ⊎_elim, Bool, true, false, ◌&&◌, List, [], ◌∷◌, ◌++◌, length, slice_index, Option, Some, None, refl, sym, ap, ◌∙◌, subst, length-append, arith}
+use Rattle.std.proofs.Common.{◌≡◌, ◌≢◌, ℕ, zero, suc, ◌+◌, ◌<◌, ◌≤◌, inl, inr, ⊎_elim, Bool, true, false, ◌&&◌, List, [], ◌∷◌, ◌++◌, length, slice_index, Option, Some, None, refl, sym, ap, ◌∙◌, subst, length-append, arith}
 use Rattle.std.specs.List.{list_all}
 use Rattle.std.proofs.lemmas.Bool.{cases_lt}
 use Rattle.std.proofs.lemmas.Bool.Decides.{nat_tests}
-use Rattle.std.proofs.lemmas.List.{append-nil}
+use Rattle.std.proofs.lemmas.List.{append-nil, get_or_past}
 use Rattle.j1_table.specs.Instruction.{decoded}
 use Rattle.word_table.specs.declared.word.Word.{Word}
 use Rattle.word_table.specs.Table.{cells_from}
 use Rattle.forth_program.specs.Tree.{Node, Nodes, Literal, Plain, Call, Child}
 use Rattle.forth_program.specs.Program.{SourceProgram}
-use Rattle.forth_program.specs.Form.{everywhere, has_id_below, calls_go_back, leaves_fit}
+use Rattle.forth_program.specs.Form.{everywhere, has_id_below, calls_go_back, leaves_fit, has_no_go}
 use Rattle.word_laws.specs.Numbers.{number_cells}
 use Rattle.word_laws.specs.Standing.{StandIn, CellsStand}
 use Rattle.code_layout.specs.Numbering.{library_number}
-use Rattle.code_layout.specs.Layout.{Routine, Definition, Library, Executing, Aborting, type_routine, jump_to, branch_to, call_to, return_cell, body_size}
+use Rattle.code_layout.specs.Layout.{Routine, Definition, Library, Executing, Aborting, Leaving, type_routine, jump_to, branch_to, call_to, return_cell, body_size}
 use Rattle.code_layout.specs.Layout.{body_cells, bodies_cells, begins_at, bodies_size, execute_cells, abort_cells, word_token_cells, word_token_place}
-use Rattle.code_layout.specs.Layout.{token_cells, token_size, tokens_cells, token_place, token_jumps, library_place, execute_place, abort_place, first_place}
-use Rattle.code_layout.specs.Layout.{tokens_place, routine_place, laid_out}
+use Rattle.code_layout.specs.Layout.{token_cells, token_size, tokens_size, leaving_cells, leaving_size, tokens_cells, token_place, token_jumps, library_place, execute_place, abort_place, first_place}
+use Rattle.code_layout.specs.Layout.{tokens_place, leaving_place, routine_place, header, laid_out}
 use Rattle.code_layout.specs.Built.{is_laid_out, IsBuilt}
 use Rattle.code_layout.specs.Library.{each_uses_earlier, IsLibrary}
 use Rattle.code_layout.specs.LastCalls.{IsReturn, IsCallCell, LastCalls, begins_well, all_begin_well}
 use Rattle.code_layout.proofs.Machine.{both}
-use Rattle.code_layout.proofs.LaidCode.{body_size_is, token_size_is, cut, onward}
+use Rattle.code_layout.proofs.LaidCode.{body_size_is, token_size_is, tokens_size_is, leaving_size_is, cut, onward}
 use Rattle.code_layout.proofs.Image.{begins_low, bodies_size_is, jumps_length}
 use Rattle.code_layout.proofs.Followed.{Later, MayFollow, CallsFollowed, call_is, jump_is, is_jump, is_branch, is_no_call, followed_join, other_cell, no_calls}
 use Rattle.code_layout.proofs.CallsFollowed.{words_have_no_calls, numbers_have_no_calls, body_followed}
@@ -35,6 +35,10 @@ all_joined (x ∷ a) b e f = let h = both (is_no_call x) (list_all is_no_call a)
     true_both : (s t : Bool) → s ≡ true → t ≡ true → (s && t) ≡ true
     true_both true t e f = f
     true_both false t e f = absurd (let g : false ≡ true = e in cc)
+
+leaving_has_none : (lacking : Bool) → list_all is_no_call (leaving_cells lacking) ≡ true
+leaving_has_none true = refl
+leaving_has_none false = refl
 
 module _ (data_start : ℕ) (place : Routine → ℕ) (low : (r : Routine) → place r < 8192) where
   word_token_has_none : (word : Word) (found : Option ℕ) → list_all is_no_call (word_token_cells data_start found word) ≡ true
@@ -87,20 +91,20 @@ module _ (code : List ℕ) (data_start : ℕ) (place : Routine → ℕ) (low : (
       let near' : (k : ℕ) → k < suc number → place (Library k) ≤ at = λ k lt. ⊎_elim (λ before. near k before) (λ le. let same : k ≡ number = omega arith in omega (arith, ap (λ k. place (Library k)) same, own_at)) (cases_lt k number) in
       let one =
       body_followed code data_start place low false number 0 (is_laid_out false number 0) at (λ d e f. absurd (grind (arith, nat_tests)))
-      (λ k e. near k (grind (arith, nat_tests))) (λ e. absurd (let f : false ≡ true = e in cc)) body
+      (λ k e. near k (grind (arith, nat_tests))) (λ e. absurd (let f : false ≡ true = e in cc)) (λ e. absurd (let f : false ≡ true = e in cc)) body
       (record { are_laid = a.0; all_back = a.0; have_cells = c.0; leaves = d.0 }) parts.0 (omega (arith, n, whole, own)) in
       let two = library_followed (at + body_size body) (suc number) next bodies (λ k lt. let m = near' k lt in omega (arith, m))
       (λ k lt. let e : number + suc k ≡ suc number + k = omega arith in begins (suc k) (omega arith) ∙ ap (λ k. place (Library k)) e) a.1 c.1 d.1 parts.1 (omega (arith, n, whole, own)) in
       let e : at + length (bodies_cells data_start place at (body ∷ bodies)) ≡ at + body_size body + length rest = omega (arith, whole, own) in
       subst (CallsFollowed code at) (sym e) (followed_join code at (at + body_size body) (at + body_size body + length rest) one two)
 
-  bodies_followed : (words count first : ℕ) → ((number : ℕ) → number < words → place (Library number) ≤ first) → place Executing ≤ first →
+  bodies_followed : (words count first : ℕ) → ((number : ℕ) → number < words → place (Library number) ≤ first) → place Executing ≤ first → slice_index code (place Leaving) ≢ 0x700C →
       (at definition next : ℕ) (bodies : List Nodes) → first ≤ at → ((d : ℕ) → d < definition → place (Definition d) ≤ at) →
       ((k : ℕ) → k < length bodies → begins_at at bodies k ≡ place (Definition (definition + k))) →
       list_all (everywhere (is_laid_out true words count)) bodies ≡ true → calls_go_back definition bodies ≡ true → list_all (everywhere begins_well) bodies ≡ true → list_all (leaves_fit false) bodies ≡ true →
       StandIn code at (bodies_cells data_start place at bodies) next → at + length (bodies_cells data_start place at bodies) + 1 < 8192 → CallsFollowed code at (at + length (bodies_cells data_start place at bodies))
-  bodies_followed words count first near_words near_execute at definition next [] from near begins laid back cells leaves h n = λ c a b l m. absurd (omega arith)
-  bodies_followed words count first near_words near_execute at definition next (body ∷ bodies) from near begins laid back cells leaves h n =
+  bodies_followed words count first near_words near_execute no_return at definition next [] from near begins laid back cells leaves h n = λ c a b l m. absurd (omega arith)
+  bodies_followed words count first near_words near_execute no_return at definition next (body ∷ bodies) from near begins laid back cells leaves h n =
       let a = both (everywhere (is_laid_out true words count) body) (list_all (everywhere (is_laid_out true words count)) bodies) laid in
       let b = both (everywhere (has_id_below (suc definition)) body) (calls_go_back (suc definition) bodies) back in
       let c = both (everywhere begins_well body) (list_all (everywhere begins_well) bodies) cells in
@@ -115,9 +119,9 @@ module _ (code : List ℕ) (data_start : ℕ) (place : Routine → ℕ) (low : (
       (cases_lt k definition) in
       let one =
       body_followed code data_start place low true words count (has_id_below (suc definition)) at (λ d e f. near' d (grind (arith, nat_tests)))
-      (λ k e. let l = near_words k (grind (arith, nat_tests)) in omega (arith, l, from)) (λ e. omega (arith, near_execute, from)) body
+      (λ k e. let l = near_words k (grind (arith, nat_tests)) in omega (arith, l, from)) (λ e. omega (arith, near_execute, from)) (λ e. no_return) body
       (record { are_laid = a.0; all_back = b.0; have_cells = c.0; leaves = d.0 }) parts.0 (omega (arith, n, whole, own)) in
-      let two = bodies_followed words count first near_words near_execute (at + body_size body) (suc definition) next bodies (omega arith) (λ k lt. let m = near' k lt in omega (arith, m))
+      let two = bodies_followed words count first near_words near_execute no_return (at + body_size body) (suc definition) next bodies (omega arith) (λ k lt. let m = near' k lt in omega (arith, m))
       (λ k lt. let e : definition + suc k ≡ suc definition + k = omega arith in begins (suc k) (omega arith) ∙ ap (λ k. place (Definition k)) e) a.1 b.1 c.1 d.1 parts.1 (omega (arith, n, whole, own)) in
       let e : at + length (bodies_cells data_start place at (body ∷ bodies)) ≡ at + body_size body + length rest = omega (arith, whole, own) in
       subst (CallsFollowed code at) (sym e) (followed_join code at (at + body_size body) (at + body_size body + length rest) one two)
@@ -171,13 +175,18 @@ module _ (cells_stand : CellsStand) (library : List Nodes) (p : SourceProgram) (
   abbrev of_tokens : List ℕ
   of_tokens = tokens_cells p.data_start (routine_place library p) p.tokens
 
-  whole : length (laid_out library p).cells ≡ tokens_place library p + length (tokens_cells p.data_start (routine_place library p) p.tokens)
+  abbrev of_leaving : List ℕ
+  of_leaving = leaving_cells (has_no_go p)
+
+  whole : length (laid_out library p).cells ≡ tokens_place library p + length (tokens_cells p.data_start (routine_place library p) p.tokens) + leaving_size (has_no_go p)
   whole =
       omega (
         arith,
-        length-append jumps (of_library ++ (of_execute ++ (of_abort ++ (of_program ++ of_tokens)))),
-        length-append of_library (of_execute ++ (of_abort ++ (of_program ++ of_tokens))),
-        length-append of_program of_tokens,
+        length-append jumps (of_library ++ (of_execute ++ (of_abort ++ (of_program ++ (of_tokens ++ of_leaving))))),
+        length-append of_library (of_execute ++ (of_abort ++ (of_program ++ (of_tokens ++ of_leaving)))),
+        length-append of_program (of_tokens ++ of_leaving),
+        length-append of_tokens of_leaving,
+        leaving_size_is (has_no_go p),
         jumps_length (routine_place library p) (tokens_place library p) p.tokens,
         bodies_size_is p.data_start (routine_place library p) (library_place p) library,
         bodies_size_is p.data_start (routine_place library p) (first_place library p) p.bodies,
@@ -191,6 +200,7 @@ module _ (cells_stand : CellsStand) (library : List Nodes) (p : SourceProgram) (
   low (Library number) = let h = short in begins_low (library_place p) 0 library number (omega (arith, whole))
   low Executing = let h = short in omega (arith, whole)
   low Aborting = let h = short in omega (arith, whole)
+  low Leaving = let h = short in omega (arith, whole, tokens_size_is p.data_start (routine_place library p) p.tokens)
 
   abbrev end : ℕ
   end = 0 + length (laid_out library p).cells
@@ -198,18 +208,42 @@ module _ (cells_stand : CellsStand) (library : List Nodes) (p : SourceProgram) (
   stand : StandIn cells 0 cells (0 + length cells)
   stand = let h = short in subst (λ code. StandIn code 0 cells (0 + length cells)) (append-nil cells) (cells_stand [] cells [] (omega (arith, h)))
 
+  -- no return stands where that of GO begins
+  no_return_at_go : (lacking : Bool) → has_no_go p ≡ lacking → slice_index cells (leaving_place library p) ≢ 0x700C
+  no_return_at_go true e f =
+      let size = tokens_size_is p.data_start (routine_place library p) p.tokens in
+      let past : slice_index cells (leaving_place library p) ≡ 0 = get_or_past cells (leaving_place library p) 0 (omega (arith, whole, size, ap leaving_size e)) in
+      let g : 0 ≡ 0x700C = sym past ∙ f in
+      absurd (omega (arith, g))
+  no_return_at_go false e f =
+      let h = short in
+      let w = whole in
+      let size = tokens_size_is p.data_start (routine_place library p) p.tokens in
+      let words_size = bodies_size_is p.data_start (routine_place library p) (library_place p) library in
+      let defined_size = bodies_size_is p.data_start (routine_place library p) (first_place library p) p.bodies in
+      let a = cut cells 0 8 (header (routine_place library p (Definition p.main_body))) (jumps ++ (of_library ++ (of_execute ++ (of_abort ++ (of_program ++ (of_tokens ++ of_leaving)))))) end refl (omega arith) stand in
+      let b = cut cells 8 (length p.tokens) jumps (of_library ++ (of_execute ++ (of_abort ++ (of_program ++ (of_tokens ++ of_leaving))))) end (jumps_length (routine_place library p) (tokens_place library p) p.tokens) (omega (arith, h, w)) a.1 in
+      let c = cut cells (library_place p) (bodies_size library) of_library (of_execute ++ (of_abort ++ (of_program ++ (of_tokens ++ of_leaving)))) end words_size (omega (arith, h, w)) b.1 in
+      let d = cut cells (execute_place library p) 15 of_execute (of_abort ++ (of_program ++ (of_tokens ++ of_leaving))) end refl (omega (arith, h, w)) c.1 in
+      let g = cut cells (abort_place library p) 15 of_abort (of_program ++ (of_tokens ++ of_leaving)) end refl (omega (arith, h, w)) d.1 in
+      let i = cut cells (first_place library p) (bodies_size p.bodies) of_program (of_tokens ++ of_leaving) end defined_size (omega (arith, h, w)) g.1 in
+      let j = cut cells (tokens_place library p) (tokens_size p.tokens) of_tokens of_leaving end size (omega (arith, h, w, size)) i.1 in
+      let k = subst (λ lacking. StandIn cells (leaving_place library p) (leaving_cells lacking) end) e j.1 in
+      let l : 0x6147 ≡ 0x700C = sym k.0 ∙ f in
+      absurd (omega (arith, l))
+
   all_followed : CallsFollowed cells 0 (length cells)
   all_followed =
       let h = short in
       let size = whole in
-      let fixed = cut cells 1 7 (0x8000 ∷ 0xC004 ∷ 0x6023 ∷ 0 ∷ 0 ∷ 0 ∷ 0 ∷ []) (jumps ++ (of_library ++ (of_execute ++ (of_abort ++ (of_program ++ of_tokens))))) end refl (omega arith) stand.2 in
-      let a = cut cells 8 (length p.tokens) jumps (of_library ++ (of_execute ++ (of_abort ++ (of_program ++ of_tokens)))) end (jumps_length (routine_place library p) (tokens_place library p) p.tokens) (omega (arith, h, size)) fixed.1 in
+      let fixed = cut cells 1 7 (0x8000 ∷ 0xC004 ∷ 0x6023 ∷ 0 ∷ 0 ∷ 0 ∷ 0 ∷ []) (jumps ++ (of_library ++ (of_execute ++ (of_abort ++ (of_program ++ (of_tokens ++ of_leaving)))))) end refl (omega arith) stand.2 in
+      let a = cut cells 8 (length p.tokens) jumps (of_library ++ (of_execute ++ (of_abort ++ (of_program ++ (of_tokens ++ of_leaving))))) end (jumps_length (routine_place library p) (tokens_place library p) p.tokens) (omega (arith, h, size)) fixed.1 in
       let b =
-      cut cells (library_place p) (bodies_size library) of_library (of_execute ++ (of_abort ++ (of_program ++ of_tokens))) end
+      cut cells (library_place p) (bodies_size library) of_library (of_execute ++ (of_abort ++ (of_program ++ (of_tokens ++ of_leaving)))) end
       (bodies_size_is p.data_start (routine_place library p) (library_place p) library) (omega (arith, h, size)) a.1 in
-      let c = cut cells (execute_place library p) 15 of_execute (of_abort ++ (of_program ++ of_tokens)) end refl (omega (arith, h, size)) b.1 in
-      let d = cut cells (abort_place library p) 15 of_abort (of_program ++ of_tokens) end refl (omega (arith, h, size)) c.1 in
-      let g = cut cells (first_place library p) (bodies_size p.bodies) of_program of_tokens end (bodies_size_is p.data_start (routine_place library p) (first_place library p) p.bodies) (omega (arith, h, size)) d.1 in
+      let c = cut cells (execute_place library p) 15 of_execute (of_abort ++ (of_program ++ (of_tokens ++ of_leaving))) end refl (omega (arith, h, size)) b.1 in
+      let d = cut cells (abort_place library p) 15 of_abort (of_program ++ (of_tokens ++ of_leaving)) end refl (omega (arith, h, size)) c.1 in
+      let g = cut cells (first_place library p) (bodies_size p.bodies) of_program (of_tokens ++ of_leaving) end (bodies_size_is p.data_start (routine_place library p) (first_place library p) p.bodies) (omega (arith, h, size)) d.1 in
       let one : CallsFollowed cells 0 1 = λ c a b l m. let same : 1 ≡ c + 1 = omega arith in subst (MayFollow cells) same (other_cell cells 1 0x8000 stand.2.0 (omega arith) (λ e. absurd (omega (arith, e)))) in
       let two = no_calls cells 1 7 (0x8000 ∷ 0xC004 ∷ 0x6023 ∷ 0 ∷ 0 ∷ 0 ∷ 0 ∷ []) 8 refl refl (omega arith) fixed.0 in
       let three =
@@ -227,17 +261,20 @@ module _ (cells_stand : CellsStand) (library : List Nodes) (p : SourceProgram) (
       let begin = both (list_all (everywhere begins_well) p.bodies) (list_all begins_well p.tokens) well in
       let seven =
       bodies_followed cells p.data_start (routine_place library p) low (length library) (length p.bodies) (first_place library p)
-      (λ k lt. let m = begins_before (library_place p) library k lt in omega (arith, m)) (omega arith) (first_place library p) 0
+      (λ k lt. let m = begins_before (library_place p) library k lt in omega (arith, m)) (omega arith) (no_return_at_go (has_no_go p) refl) (first_place library p) 0
       (tokens_place library p) p.bodies (omega arith)
       (λ d lt. absurd (omega arith)) (λ k lt. ap (λ k. routine_place library p (Definition k)) (zero_plus k)) built.items back begin.0 built.leaves_in_loops g.0 (omega (arith, h, size, defined_size)) in
-      let eight = no_calls cells (tokens_place library p) (length of_tokens) of_tokens end (tokens_have_none p.data_start (routine_place library p) low p.tokens) refl (omega (arith, h, size)) g.1 in
+      let k = cut cells (tokens_place library p) (length of_tokens) of_tokens of_leaving end refl (omega (arith, h, size)) g.1 in
+      let eight = no_calls cells (tokens_place library p) (length of_tokens) of_tokens (tokens_place library p + length of_tokens) (tokens_have_none p.data_start (routine_place library p) low p.tokens) refl (omega (arith, h, size)) k.0 in
+      let nine = no_calls cells (tokens_place library p + length of_tokens) (leaving_size (has_no_go p)) of_leaving end (leaving_has_none (has_no_go p)) (leaving_size_is (has_no_go p)) (omega (arith, h, size)) k.1 in
       let words_end : library_place p + length (bodies_cells p.data_start (routine_place library p) (library_place p) library) ≡ execute_place library p = omega (arith, words_size) in
       let program_end : first_place library p + length (bodies_cells p.data_start (routine_place library p) (first_place library p) p.bodies) ≡ tokens_place library p = omega (arith, defined_size) in
-      let last : tokens_place library p + length of_tokens ≡ length cells = sym whole in
+      let last : tokens_place library p + length of_tokens + leaving_size (has_no_go p) ≡ length cells = sym whole in
       followed_join cells 0 1 (length cells) one (followed_join cells 1 8 (length cells) two (followed_join cells 8 (library_place p) (length cells) three
       (followed_join cells (library_place p) (execute_place library p) (length cells) (subst (CallsFollowed cells (library_place p)) words_end four)
       (followed_join cells (execute_place library p) (abort_place library p) (length cells) five (followed_join cells (abort_place library p) (first_place library p) (length cells) six
-      (followed_join cells (first_place library p) (tokens_place library p) (length cells) (subst (CallsFollowed cells (first_place library p)) program_end seven) (subst (CallsFollowed cells (tokens_place library p)) last eight)))))))
+      (followed_join cells (first_place library p) (tokens_place library p) (length cells) (subst (CallsFollowed cells (first_place library p)) program_end seven)
+      (followed_join cells (tokens_place library p) (tokens_place library p + length of_tokens) (length cells) eight (subst (CallsFollowed cells (tokens_place library p + length of_tokens)) last nine))))))))
     where
       zero_plus : (k : ℕ) → k ≡ 0 + k
       zero_plus k = omega arith

@@ -14,6 +14,7 @@ pub mod LoopSteps
 pub mod CaseSteps
 pub mod FirstSteps
 pub mod Runs
+pub mod Everywhere
 pub mod LaidCode
 pub mod ExecuteAndAbort
 pub mod Image

@@ -7,12 +7,12 @@ use Rattle.j1_simulator.specs.Run.{run}
 use Rattle.word_table.specs.declared.word.Word.{Word}
 use Rattle.word_table.specs.Table.{entry_of}
 use Rattle.forth_program.specs.Tree.{Nodes, Empty}
-use Rattle.forth_program.specs.State.{Entry, Cell, Loop, Todo, World, State, Reply, Gives, Stops, End, Halted, InputEnded, Outside, Underflow, Unbalanced, Goes, Ends}
+use Rattle.forth_program.specs.State.{Entry, Cell, Loop, Todo, World, State, Reply, Gives, Stops, End, Halted, InputEnded, Outside, Underflow, Unbalanced, Left, Goes, Ends}
 use Rattle.forth_program.specs.Program.{SourceProgram}
 use Rattle.forth_program.specs.Form.{everywhere, leaves_fit}
 use Rattle.forth_program.specs.Meaning.{meaning}
 use Rattle.forth_program.specs.Step.{before, first_work, on_cells}
-use Rattle.forth_program.specs.Run.{steps, end_of, lacks}
+use Rattle.forth_program.specs.Run.{steps, end_of}
 use Rattle.word_laws.specs.Rings.{OpenConfiguration}
 use Rattle.forth_program.specs.Cells.{AreCells, AreEntries, IsWorld}
 use Rattle.word_laws.specs.Standing.{return_places, standing_at_depths, machine_end, machine_at}
@@ -30,7 +30,7 @@ use Rattle.code_layout.proofs.Routines.{places_below, Returned, Stopped, Answers
 use Rattle.code_layout.proofs.LibraryWords.{finds_cells, library_need, FewLeft, library_few}
 use Rattle.code_layout.proofs.Work.{places_height, ahead, Stands, loops_before, Meets}
 use Rattle.code_layout.proofs.Steps.{AllStand}
-use Rattle.code_layout.proofs.Runs.{Reaches, StandsAs, StandsWhere, reaches}
+use Rattle.code_layout.proofs.Runs.{strays, Reaches, StandsAs, StandsWhere, reaches}
 use Rattle.code_layout.proofs.Image.{code_size, definitions, low, halt_stands, library_code, body_stands, test_of, tokens_within}
 
 -- a body uses earlier words alone
@@ -134,10 +134,10 @@ module _ (laws : Laws) (library : List Nodes) (p : SourceProgram) (built : IsBui
       balance o e sound m = ap balanced (m.does ∙ ap (λ r. on_cells r (body_is_done c w)) e) ∙ sound
 
       runs : (o : Reply (List ℕ)) → meaning word c w ≡ o → balanced (on_cells o (body_is_done c w)) ≡ true →
-          lacks (deeper_outcome es (on_cells o (body_is_done c w))) ≡ false → (m : BodyMeans word body alone c w) →
+          strays (deeper_outcome es (on_cells o (body_is_done c w))) ≡ false → (m : BodyMeans word body alone c w) →
           Reaches laws alone code places (code_size laws library p built) none_called m.count 2 (ahead (before body []) + 0) start there
       runs o e balances sound m =
-          reaches laws alone code places (code_size laws library p built) none_called m.count 2 at None start (Some 2 ∷ []) data_above return_above start_meets (ap lacks (does o e balances m) ∙ sound) (depths m (balance o e balances m))
+          reaches laws alone code places (code_size laws library p built) none_called m.count 2 at None start (Some 2 ∷ []) data_above return_above start_meets (ap strays (does o e balances m) ∙ sound) (depths m (balance o e balances m))
 
       meant : (o : Reply (List ℕ)) → meaning word c w ≡ o → finds_cells o ≡ true → BodyMeans word body alone c w
       meant o e sound = means word number is lt alone c w (library_need word number c w is (ap finds_cells e ∙ sound)) fc fits
@@ -178,7 +178,7 @@ module _ (laws : Laws) (library : List Nodes) (p : SourceProgram) (built : IsBui
             starts = stood.meets.starts;
           }
 
-      stopped : (end : End) (w' : World) (stop : Stop) → machine_end end ≡ Some stop → balanced (Ends end w') ≡ true → lacks (Ends end w') ≡ false →
+      stopped : (end : End) (w' : World) (stop : Stop) → machine_end end ≡ Some stop → balanced (Ends end w') ≡ true → strays (Ends end w') ≡ false →
           finds_cells (Stops end w') ≡ true → meaning word c w ≡ Stops end w' → Stopped p.data_start code there (routine_price word c w) high return_high end w'
       stopped end w' stop is_stop balances sound found e =
           let m = meant (Stops end w') e found in
@@ -203,6 +203,7 @@ module _ (laws : Laws) (library : List Nodes) (p : SourceProgram) (built : IsBui
       answered (Gives c' w') e = returned c' w' e
       answered (Stops Underflow w') e = tt
       answered (Stops Unbalanced w') e = tt
+      answered (Stops (Left address) w') e = tt
       answered (Stops (Halted status) w') e = stopped (Halted status) w' _ refl refl refl refl e
       answered (Stops InputEnded w') e = stopped InputEnded w' _ refl refl refl refl e
       answered (Stops (Outside address) w') e = stopped (Outside address) w' _ refl refl refl refl e
@@ -222,7 +223,7 @@ module _ (laws : Laws) (library : List Nodes) (p : SourceProgram) (built : IsBui
       is_routine word number is lt' (test_of (everywhere is_own) library number form.own_items lt')
       (body_stands code (routine_place library p) alone false number (λ word' number' is' below. routines_below n word' number' is' (omega arith) (omega arith))
       (λ e. absurd (let f : false ≡ true = e in cc)) (λ e. absurd (let f : false ≡ true = e in cc)) (low laws library p built)
-      (routine_place library p (Library number)) (slice_index_or library number Empty)
+      (is_laid_out false number 0) (λ node e. e) (λ e. absurd (let f : false ≡ true = e in cc)) (routine_place library p (Library number)) (slice_index_or library number Empty)
       (library_code laws library p built number lt')
       (subst (λ n. everywhere (is_laid_out false n 0) (slice_index_or library number Empty) ≡ true) from_zero
       (earlier_words 0 library number form.items lt')) (test_of (leaves_fit false) library number form.leaves_in_loops lt')

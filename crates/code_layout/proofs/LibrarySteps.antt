@@ -8,7 +8,7 @@ use Rattle.j1_table.specs.declared.instr.Instr.TheVariants.{Call as CallTo}
 use Rattle.j1_simulator.specs.Effect.{following}
 use Rattle.j1_simulator.specs.OpenMachine.{rest, open_storage}
 use Rattle.j1_simulator.specs.Run.{run}
-use Rattle.forth_program.specs.State.{Entry, Cell, Loop, Work, Frame, World, State, Reply, Gives, Stops, End, Halted, InputEnded, Outside, Underflow, Unbalanced}
+use Rattle.forth_program.specs.State.{Entry, Cell, Loop, Work, Frame, World, State, Reply, Gives, Stops, End, Halted, InputEnded, Outside, Underflow, Unbalanced, Left}
 use Rattle.cell_math.specs.Cell.{difference_of}
 use Rattle.forth_program.specs.Program.{SourceProgram}
 use Rattle.forth_program.specs.Step.{on_cells}
@@ -140,6 +140,7 @@ module _ (laws : Laws) (p : SourceProgram) (code : List ℕ) (place : ℕ → �
         replied (Gives c' world') then r = then c' world' r
         replied (Stops Underflow world') then r = tt
         replied (Stops Unbalanced world') then r = tt
+        replied (Stops (Left address) world') then r = tt
         replied (Stops (Halted status) world') then r = ends (Halted status) world' r
         replied (Stops InputEnded world') then r = ends InputEnded world' r
         replied (Stops (Outside address) world') then r = ends (Outside address) world' r

@@ -6,7 +6,7 @@ use Rattle.j1_simulator.specs.OpenMachine.{open_storage}
 use Rattle.j1_simulator.specs.Run.{run}
 use Rattle.word_table.specs.declared.word.Word.{Word}
 use Rattle.word_table.specs.Table.{entry_of}
-use Rattle.forth_program.specs.State.{Entry, World, Reply, Gives, Stops, ◌▸◌, End, Halted, Underflow, Unbalanced}
+use Rattle.forth_program.specs.State.{Entry, World, Reply, Gives, Stops, ◌▸◌, End, Halted, Underflow, Unbalanced, Left}
 use Rattle.forth_program.specs.ByteWords.{type_out}
 use Rattle.forth_program.specs.Meaning.{meaning}
 use Rattle.code_layout.specs.Library.{routine_price}
@@ -58,11 +58,12 @@ module _ (data_start : ℕ) (code : List ℕ) where
     pub at_end : StaysWithin 0 high 0 return_high (run open_storage data_start count v)
     pub cheap : count + 2 ≤ price + 3
 
-  -- unless cells are lacking
+  -- unless cells are lacking, or GO leads away
   abbrev pub Answers : OpenConfiguration → ℕ → ℕ → ℕ → List Entry → Reply (List ℕ) → Type 0
   Answers v price high return_high es (Gives c world) = Returned v price high return_high es c world
   Answers v price high return_high es (Stops Underflow world) = Unit {0}
   Answers v price high return_high es (Stops Unbalanced world) = Unit {0}
+  Answers v price high return_high es (Stops (Left address) world) = Unit {0}
   Answers v price high return_high es (Stops end world) = Stopped v price high return_high end world
 
   -- the code at a place does what a library word does

@@ -1,13 +1,14 @@
 -- Whole runs of word steps.
-use Rattle.std.proofs.Common.{◌≡◌, ℕ, zero, suc, ◌+◌, ◌/◌, ◌*◌, ◌≤◌, ◌⊎◌, inl, inr, ⊎_elim, max, true, false, List, ◌∷◌, length, Option, Some, None, refl, sym, ap, ◌∙◌, subst, arith, add-mul, mul-le-mul_right}
+use Rattle.std.proofs.Common.{◌≡◌, ℕ, zero, suc, ◌+◌, ◌/◌, ◌*◌, ◌≤◌, ◌⊎◌, inl, inr, ⊎_elim, max, Bool, true, false, List, ◌∷◌, length, Option, Some, None, refl, sym, ap, ◌∙◌, subst, arith, add-mul, mul-le-mul_right}
 use Rattle.j1_simulator.specs.OpenMachine.{open_storage}
 use Rattle.j1_simulator.specs.Run.{run}
 use Rattle.forth_program.specs.Tree.{Node}
-use Rattle.forth_program.specs.State.{Work, Todo, World, State, End, Halted, InputEnded, Outside, Underflow, Unbalanced, Outcome, Goes, Ends}
+use Rattle.forth_program.specs.State.{Work, Todo, World, State, End, Halted, InputEnded, Outside, Underflow, Unbalanced, Left, Outcome, Goes, Ends}
 use Rattle.forth_program.specs.Program.{SourceProgram}
+use Rattle.forth_program.specs.Form.{may_be_token}
 use Rattle.forth_program.specs.Tail.{ends_body}
 use Rattle.forth_program.specs.Step.{first_work, step}
-use Rattle.forth_program.specs.Run.{steps, end_of, lacks}
+use Rattle.forth_program.specs.Run.{steps, end_of, lacks, leaves}
 use Rattle.forth_program.specs.Price.{step_price, spent}
 use Rattle.word_laws.specs.Rings.{OpenConfiguration, BeforeEach}
 use Rattle.word_laws.specs.Bounds.{StaysWithin}
@@ -19,6 +20,23 @@ use Rattle.code_layout.proofs.Machine.{Laws, Runs, narrower, wider, runs_then}
 use Rattle.code_layout.proofs.Steps.{Comes, Halts, Follows, halts_after, AllStand}
 use Rattle.code_layout.proofs.ExecuteStep.{Executes}
 use Rattle.code_layout.proofs.FirstSteps.{step_follows}
+
+-- a run that the machine does not follow: it lacks something, or GO has led it away
+abbrev pub strays : Outcome → Bool
+strays (Goes s) = false
+strays (Ends Underflow world) = true
+strays (Ends Unbalanced world) = true
+strays (Ends (Left address) world) = true
+strays (Ends end world) = false
+
+pub strays_not : (o : Outcome) → lacks o ≡ false → leaves o ≡ false → strays o ≡ false
+strays_not (Goes s) e f = refl
+strays_not (Ends Underflow world) e f = e
+strays_not (Ends Unbalanced world) e f = e
+strays_not (Ends (Left address) world) e f = f
+strays_not (Ends (Halted status) world) e f = refl
+strays_not (Ends InputEnded world) e f = refl
+strays_not (Ends (Outside address) world) e f = refl
 
 module _ (p : SourceProgram) (s : State) (k total : ℕ) where
   steps_on : (after : State) → step p s ≡ Goes after → steps p (suc k) s ≡ steps p k after
@@ -56,9 +74,9 @@ module _ (laws : Laws) (p : SourceProgram) (code : List ℕ) (place : ℕ → �
     pub is : v ≡ standing_as s (machine_at code to base data_above return_above)
     pub meets : Meets code place p out to s base
 
-  -- where the run has not ended, and is not at the item of a token
+  -- where the run has not ended, or else is at the item of a token
   abbrev pub StandsWhere : OpenConfiguration → Outcome → Type 0
-  StandsWhere v (Goes s) = StandsAs v s ⊎ ((node : Node) × (w : List Work) × (s.work ≡ Todo node ∷ w))
+  StandsWhere v (Goes s) = StandsAs v s ⊎ ((node : Node) × (w : List Work) × (s.work ≡ Todo node ∷ w) × (may_be_token node ≡ true))
   StandsWhere v (Ends end world) = Unit {0}
 
   -- k word steps, and as many instructions as do the same
@@ -131,7 +149,7 @@ module _ (laws : Laws) (p : SourceProgram) (code : List ℕ) (place : ℕ → �
 
   -- what is proved of k steps
   abbrev RunsOf : ℕ → Type 0
-  RunsOf k = (total pc : ℕ) (out : Option ℕ) (s : State) (base data_above return_above : List (Option ℕ)) → Meets code place p out pc s base → lacks (steps p k s) ≡ false → DepthsFit p k s →
+  RunsOf k = (total pc : ℕ) (out : Option ℕ) (s : State) (base data_above return_above : List (Option ℕ)) → Meets code place p out pc s base → strays (steps p k s) ≡ false → DepthsFit p k s →
       Reaches k total (ahead s.work + unfinished s.callers) s (standing_as s (machine_at code pc base data_above return_above))
 
   no_runs : RunsOf zero
@@ -153,16 +171,17 @@ module _ (laws : Laws) (p : SourceProgram) (code : List ℕ) (place : ℕ → �
     fits k high' return_high' fit = let f = fit 0 s (omega arith) (no_steps p s) in (f.0, (let g = f.1 in omega (arith, g, height_is out pc s base m)))
 
     -- a step that the machine follows
-    followed : (k : ℕ) → lacks (steps p (suc k) s) ≡ false → DepthsFit p (suc k) s → RunsOf k → (o : Outcome) → step p s ≡ o →
+    followed : (k : ℕ) → strays (steps p (suc k) s) ≡ false → DepthsFit p (suc k) s → RunsOf k → (o : Outcome) → step p s ≡ o →
         Follows laws p code place size from (step_price s) (ahead s.work + unfinished s.callers) high return_high o →
         Reaches (suc k) total (ahead s.work + unfinished s.callers) s from
     followed k sound depths later (Goes after) e c =
         let near = c.progress in
         goes_on 1 k (suc k) total (step_price s) (ahead s.work + unfinished s.callers) (ahead s.work + unfinished s.callers) s after from high return_high (omega arith) (steps_on p s k total after e) (spent_on p s k total after e) c near
-        (later (total + step_price s) c.to c.out after c.base c.data_above c.return_above c.meets (sym (ap lacks (steps_on p s k total after e)) ∙ sound) (λ j t lt q. depths (suc j) t (omega arith) (steps_on p s j total after e ∙ q)))
+        (later (total + step_price s) c.to c.out after c.base c.data_above c.return_above c.meets (sym (ap strays (steps_on p s k total after e)) ∙ sound) (λ j t lt q. depths (suc j) t (omega arith) (steps_on p s j total after e ∙ q)))
         (λ high' return_high' fit. let g = fits k high' return_high' fit in (g.0, g.1, λ j t lt q. fit (suc j) t (omega arith) (steps_on p s j total after e ∙ q)))
-    followed k sound depths later (Ends Underflow world) e c = let f : true ≡ false = sym (ap lacks (steps_end p s k total Underflow world e)) ∙ sound in cc
-    followed k sound depths later (Ends Unbalanced world) e c = let f : true ≡ false = sym (ap lacks (steps_end p s k total Unbalanced world e)) ∙ sound in cc
+    followed k sound depths later (Ends Underflow world) e c = let f : true ≡ false = sym (ap strays (steps_end p s k total Underflow world e)) ∙ sound in cc
+    followed k sound depths later (Ends Unbalanced world) e c = let f : true ≡ false = sym (ap strays (steps_end p s k total Unbalanced world e)) ∙ sound in cc
+    followed k sound depths later (Ends (Left address) world) e c = let f : true ≡ false = sym (ap strays (steps_end p s k total (Left address) world e)) ∙ sound in cc
     followed k sound depths later (Ends (Halted status) world) e c =
         ends_at (suc k) total (step_price s) (ahead s.work + unfinished s.callers) s from high return_high (Halted status) world (steps_end p s k total (Halted status) world e) (spent_end p s k total (Halted status) world e) c (fits k)
     followed k sound depths later (Ends InputEnded world) e c =
@@ -193,7 +212,7 @@ module _ (laws : Laws) (p : SourceProgram) (code : List ℕ) (place : ℕ → �
       item_state k = steps_on p s 0 total x.after x.is ∙ no_steps p x.after
 
       -- EXECUTE alone
-      executed : lacks (steps p 1 s) ≡ false → Reaches 1 total (ahead s.work + unfinished s.callers) s from
+      executed : strays (steps p 1 s) ≡ false → Reaches 1 total (ahead s.work + unfinished s.callers) s from
       executed sound =
           let over = item_state 0 in
           let price = spent_on p s 0 total x.after x.is ∙ nothing_spent p x.after (total + step_price s) in
@@ -209,7 +228,7 @@ module _ (laws : Laws) (p : SourceProgram) (code : List ℕ) (place : ℕ → �
             before = λ high' return_high' fit. let g = fits 0 high' return_high' fit in wider laws p.data_start 0 high 0 return_high high' return_high' x.count from g.0 g.1 x.runs.bounds;
             at_end = λ high' return_high' end fit q. let f : None ≡ Some end = sym (ap end_of over) ∙ q in cc;
             progress = λ n. omega (arith, near);
-            stands = subst (StandsWhere (run open_storage p.data_start x.count from)) (sym over) (inr (x.node, x.then_work, x.work_is));
+            stands = subst (StandsWhere (run open_storage p.data_start x.count from)) (sym over) (inr (x.node, x.then_work, x.work_is, x.is_token));
           }
 
       module _ (top return_top : ℕ) (peak : high ≤ top) (back : return_high ≤ return_top) where
@@ -248,7 +267,7 @@ module _ (laws : Laws) (p : SourceProgram) (code : List ℕ) (place : ℕ → �
             ends_at (suc (suc k)) total (step_price s + step_price x.after) (ahead s.work + unfinished s.callers) s from top return_top end world (twice_end k end world e) (twice_end_spent k end world e)
             (halts_after laws p code place size from x.there x.count (step_price x.after + 1) (step_price s + step_price x.after) top return_top end world (omega (arith, cheap)) runs_before h) fit
 
-        both_followed : (k : ℕ) → lacks (steps p (suc (suc k)) s) ≡ false → DepthsFit p (suc (suc k)) s → RunsOf k → ((high' return_high' : ℕ) → StepsFit p high' return_high' (suc (suc k)) s → (top ≤ high') × (return_top ≤ return_high')) →
+        both_followed : (k : ℕ) → strays (steps p (suc (suc k)) s) ≡ false → DepthsFit p (suc (suc k)) s → RunsOf k → ((high' return_high' : ℕ) → StepsFit p high' return_high' (suc (suc k)) s → (top ≤ high') × (return_top ≤ return_high')) →
             (o : Outcome) → step p x.after ≡ o →
             Follows laws p code place size x.there (step_price x.after + 1)
             (p.source_tokens + 1 + unfinished (record { work = x.then_work; entries = s.entries } ∷ x.after.callers)) top return_top o →
@@ -259,10 +278,11 @@ module _ (laws : Laws) (p : SourceProgram) (code : List ℕ) (place : ℕ → �
             goes_on 2 k (suc (suc k)) total (step_price s + step_price x.after) (ahead s.work + unfinished s.callers) (ahead s.work + unfinished s.callers) s
             after from top return_top (omega arith) (twice_on k after e) (twice_spent k after e) d b.1
             (later (total + (step_price s + step_price x.after)) d.to d.out after d.base d.data_above d.return_above d.meets
-            (sym (ap lacks (twice_on k after e)) ∙ sound) (λ j t lt q. depths (suc (suc j)) t (omega arith) (twice_on j after e ∙ q)))
+            (sym (ap strays (twice_on k after e)) ∙ sound) (λ j t lt q. depths (suc (suc j)) t (omega arith) (twice_on j after e ∙ q)))
             (λ high' return_high' steps_fit. let g = fit high' return_high' steps_fit in (g.0, g.1, λ j t lt q. steps_fit (suc (suc j)) t (omega arith) (twice_on j after e ∙ q)))
-        both_followed k sound depths later fit (Ends Underflow world) e c = let f : true ≡ false = sym (ap lacks (twice_end k Underflow world e)) ∙ sound in cc
-        both_followed k sound depths later fit (Ends Unbalanced world) e c = let f : true ≡ false = sym (ap lacks (twice_end k Unbalanced world e)) ∙ sound in cc
+        both_followed k sound depths later fit (Ends Underflow world) e c = let f : true ≡ false = sym (ap strays (twice_end k Underflow world e)) ∙ sound in cc
+        both_followed k sound depths later fit (Ends Unbalanced world) e c = let f : true ≡ false = sym (ap strays (twice_end k Unbalanced world e)) ∙ sound in cc
+        both_followed k sound depths later fit (Ends (Left address) world) e c = let f : true ≡ false = sym (ap strays (twice_end k (Left address) world e)) ∙ sound in cc
         both_followed k sound depths later fit (Ends (Halted status) world) e c = both_end k fit (Halted status) world e c
         both_followed k sound depths later fit (Ends InputEnded world) e c = both_end k fit InputEnded world e c
         both_followed k sound depths later fit (Ends (Outside address) world) e c = both_end k fit (Outside address) world e c
@@ -271,7 +291,7 @@ module _ (laws : Laws) (p : SourceProgram) (code : List ℕ) (place : ℕ → �
       abbrev back_of_item : ℕ
       back_of_item = length (return_places s.entries base) + address_height (ends_body x.then_work) + back_of (first_work x.after.work)
 
-      twice : (k : ℕ) → lacks (steps p (suc (suc k)) s) ≡ false → DepthsFit p (suc (suc k)) s → RunsOf k → Reaches (suc (suc k)) total (ahead s.work + unfinished s.callers) s from
+      twice : (k : ℕ) → strays (steps p (suc (suc k)) s) ≡ false → DepthsFit p (suc (suc k)) s → RunsOf k → Reaches (suc (suc k)) total (ahead s.work + unfinished s.callers) s from
       twice k sound depths later =
           let top = max high (length x.after.cells + peak_of x.after.callers (first_work x.after.work)) in
           let return_top = max return_high back_of_item in
@@ -293,7 +313,7 @@ module _ (laws : Laws) (p : SourceProgram) (code : List ℕ) (place : ℕ → �
       ⊎_elim (λ f. followed total pc out s base data_above return_above m k sound depths here (step p s) refl f) (λ x. executing k earlier sound depths x)
       (step_follows laws p code place size all out pc s base data_above return_above m (depths 0 s (omega arith) (no_steps p s)))
     where
-      executing : (k : ℕ) → ((j : ℕ) → suc j ≡ k → RunsOf j) → lacks (steps p (suc k) s) ≡ false → DepthsFit p (suc k) s →
+      executing : (k : ℕ) → ((j : ℕ) → suc j ≡ k → RunsOf j) → strays (steps p (suc k) s) ≡ false → DepthsFit p (suc k) s →
           Executes laws p code place size all (standing_as s (machine_at code pc base data_above return_above)) (step_price s) (ahead s.work + unfinished s.callers)
           (length s.cells + peak_of s.callers (first_work s.work)) (length (return_places s.entries base) + back_of (first_work s.work)) (first_work s.work)
           s.cells s.entries base (step p s) →
@@ -311,6 +331,6 @@ module _ (laws : Laws) (p : SourceProgram) (code : List ℕ) (place : ℕ → �
       same_before : (j k : ℕ) → suc j ≡ suc k → k ≡ j
       same_before j k e = omega (arith, e)
 
-  pub reaches : (k total pc : ℕ) (out : Option ℕ) (s : State) (base data_above return_above : List (Option ℕ)) → Meets code place p out pc s base → lacks (steps p k s) ≡ false → DepthsFit p k s →
+  pub reaches : (k total pc : ℕ) (out : Option ℕ) (s : State) (base data_above return_above : List (Option ℕ)) → Meets code place p out pc s base → strays (steps p k s) ≡ false → DepthsFit p k s →
       Reaches k total (ahead s.work + unfinished s.callers) s (standing_as s (machine_at code pc base data_above return_above))
   reaches k = (both_runs k).0

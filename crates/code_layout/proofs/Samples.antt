@@ -1,5 +1,5 @@
 -- Images of small programs, and what they print.
-use Rattle.std.proofs.Common.{◌≡◌, ℕ, zero, suc, ◌+◌, ◌<◌, subst, rules, false, true, None, Some, List, [], ◌∷◌, ◌++◌, length, refl, ap, ◌∙◌, arith}
+use Rattle.std.proofs.Common.{◌≡◌, ℕ, zero, suc, ◌+◌, ◌<◌, subst, rules, false, true, ◌&&◌, None, Some, List, [], ◌∷◌, ◌++◌, length, refl, ap, ◌∙◌, arith}
 use Rattle.word_table.specs.declared.word.Word.TheVariants.{Base, Swap, Key, Emit, Fetch, Execute, OnePlus, Plus, Dup, QDup, DropTop, OneMinus, ZeroEqual, Index}
 use Rattle.word_table.specs.declared.word.Word.{Word}
 use Rattle.word_table.specs.Table.{cells_of, cells_from}
@@ -9,14 +9,15 @@ use Rattle.forth_program.specs.State.{World, State, Halted, Stored, Outcome, Goe
 use Rattle.forth_program.specs.Program.{SourceProgram}
 use Rattle.forth_program.specs.Step.{first_work, step}
 use Rattle.forth_program.specs.Price.{spent}
+use Rattle.forth_program.specs.Form.{everywhere, is_not_go}
 use Rattle.std.specs.Prelude.{◌≢◌, slice_index_or, ◌≤◌}
-use Rattle.forth_program.specs.Run.{and_then, steps, first_world, first_state, source_run}
+use Rattle.forth_program.specs.Run.{and_then, steps, first_world, first_state, source_run, leaves}
 use Rattle.j1_simulator.specs.declared.ends.End.TheVariants as chip
 use Rattle.j1_simulator.specs.Step.{By}
 use Rattle.j1_simulator.specs.Run.{open_run}
 use Rattle.forth_program.specs.declared.item.TextKind.TheVariants as text
 use Rattle.word_laws.specs.Numbers.{number_cells}
-use Rattle.code_layout.specs.Layout.{Routine, routine_of, word_falls_through, word_size, word_cells, reaches_end, cell_if, nodes_cells, execute_cells, abort_cells, routine_place, header, laid_out}
+use Rattle.code_layout.specs.Layout.{Routine, routine_of, word_falls_through, word_size, word_cells, reaches_end, cell_if, nodes_cells, execute_cells, abort_cells, leaving_cells, routine_place, header, laid_out}
 use Rattle.code_layout.specs.Built.{IsBuilt}
 use Rattle.forth_program.specs.Heights.{entries_height, peak_of, back_of, DepthFits, IsSafe}
 use Rattle.code_layout.specs.Library.{IsLibrary, BodyTakesNoMore, BodyMeans}
@@ -67,10 +68,10 @@ line_falls_through (Then node rest) line = absurd line
 abbrev behind : List ℕ → List ℕ
 behind cells = execute_cells 8 0 ++ (abort_cells 23 0 ++ cells)
 
-one_line : (body : Nodes) (count : ℕ) → IsLine body → (laid_out [] (program (body ∷ []) 0 count)).cells ≡ 0x4026 ∷ 0x8000 ∷ 0xC004 ∷ 0x6023 ∷ 0 ∷ 0 ∷ 0 ∷ 0 ∷ behind (((line_cells body ++ 0x700C ∷ []) ++ []) ++ [])
+one_line : (body : Nodes) (count : ℕ) → IsLine body → (laid_out [] (program (body ∷ []) 0 count)).cells ≡ 0x4026 ∷ 0x8000 ∷ 0xC004 ∷ 0x6023 ∷ 0 ∷ 0 ∷ 0 ∷ 0 ∷ behind (((line_cells body ++ 0x700C ∷ []) ++ []) ++ leaving_cells (everywhere is_not_go body && true))
 one_line body count line =
-    ap (λ cells. header 38 ++ behind (((cells ++ cell_if (reaches_end true true body) 0x700C) ++ []) ++ [])) (line_is_laid body (routine_place [] (program (body ∷ []) 0 count)) 0 38 line)
-    ∙ ap (λ reached. header 38 ++ behind (((line_cells body ++ cell_if reached 0x700C) ++ []) ++ [])) (line_falls_through body line)
+    ap (λ cells. header 38 ++ behind (((cells ++ cell_if (reaches_end true true body) 0x700C) ++ []) ++ leaving_cells (everywhere is_not_go body && true))) (line_is_laid body (routine_place [] (program (body ∷ []) 0 count)) 0 38 line)
+    ∙ ap (λ reached. header 38 ++ behind (((line_cells body ++ cell_if reached 0x700C) ++ []) ++ leaving_cells (everywhere is_not_go body && true))) (line_falls_through body line)
 
 -- ---- some programs
 
@@ -379,7 +380,7 @@ two_goes_well = record { lacks_nothing = refl; depth_fits = each_is DepthIsFit t
 
 two_does_as_much : ImagesAgree → ForwardSimulation [] two [] 10
 unfolding two
-two_does_as_much agree = agree.forward [] two [] 10 (record { items = refl; own_items = refl; leaves_in_loops = refl }) (λ word number is lt. absurd (omega arith)) two_is_built (search rules) (search rules) two_goes_well
+two_does_as_much agree = agree.forward [] two [] 10 (record { items = refl; own_items = refl; leaves_in_loops = refl }) (λ word number is lt. absurd (omega arith)) two_is_built (search rules) (search rules) two_goes_well (ap leaves two_means)
 
 -- ---- a library that means its words
 

@@ -4,9 +4,9 @@ use Rattle.std.proofs.lemmas.Bool.{cases_lt}
 use Rattle.j1_simulator.specs.Step.{Stop, Missing}
 use Rattle.j1_simulator.specs.OpenMachine.{open_storage}
 use Rattle.j1_simulator.specs.Run.{run, begun, open_start, open_run, IsPrefixOf}
-use Rattle.forth_program.specs.State.{World, End, Halted, InputEnded, Outside, Underflow, Unbalanced, Outcome, Goes, Ends}
+use Rattle.forth_program.specs.State.{World, End, Halted, InputEnded, Outside, Underflow, Unbalanced, Left, Outcome, Goes, Ends}
 use Rattle.forth_program.specs.Program.{SourceProgram, body_of}
-use Rattle.forth_program.specs.Run.{source_run, steps, first_state, world_of, end_of, lacks}
+use Rattle.forth_program.specs.Run.{source_run, steps, first_state, world_of, end_of, leaves}
 use Rattle.forth_program.specs.Price.{price}
 use Rattle.word_laws.specs.Rings.{OpenConfiguration, BeforeEach}
 use Rattle.word_laws.specs.Bounds.{StaysWithin}
@@ -19,7 +19,7 @@ use Rattle.code_layout.specs.Agreement.{AreBytes, code_of, stop_of_outcome, Show
 use Rattle.forth_program.specs.Heights.{IsSafe}
 use Rattle.code_layout.proofs.Work.{ahead, ahead_bound, loops_before, Meets}
 use Rattle.code_layout.proofs.Machine.{Laws, runs_one}
-use Rattle.code_layout.proofs.Runs.{Reaches, reaches}
+use Rattle.code_layout.proofs.Runs.{strays, strays_not, Reaches, reaches}
 use Rattle.code_layout.proofs.Steps.{AllStand}
 use Rattle.code_layout.proofs.Image.{first_world_is, definitions, code_size, begins, main_called, all_stand}
 use Rattle.code_layout.proofs.Library.{routines}
@@ -32,14 +32,16 @@ never_missing (Ends InputEnded world) e = cc
 never_missing (Ends (Outside address) world) e = cc
 never_missing (Ends Underflow world) e = cc
 never_missing (Ends Unbalanced world) e = cc
+never_missing (Ends (Left address) world) e = cc
 
--- where nothing is lacking, the machine has an end for the source's
-pub stop_at : (end : End) (world : World) → lacks (Ends end world) ≡ false → (stop : Stop) × (machine_end end ≡ Some stop)
+-- where nothing is lacking and GO leads nowhere, the machine has an end for the source's
+pub stop_at : (end : End) (world : World) → strays (Ends end world) ≡ false → (stop : Stop) × (machine_end end ≡ Some stop)
 stop_at (Halted status) world e = (_, refl)
 stop_at InputEnded world e = (_, refl)
 stop_at (Outside address) world e = (_, refl)
 stop_at Underflow world e = absurd (let f : true ≡ false = e in cc)
 stop_at Unbalanced world e = absurd (let f : true ≡ false = e in cc)
+stop_at (Left address) world e = absurd (let f : true ≡ false = e in cc)
 
 enough : (n c most k : ℕ) → (n + 1) * (most + 4) ≤ k → k ≤ most + c * (most + 1) → n ≤ c
 enough n c most k h far =
@@ -94,10 +96,10 @@ module _ (laws : Laws) (library : List Nodes) (form : IsLibrary library) (means 
   abbrev Main : ℕ → Type 0
   Main k = Reaches laws p (code_of library p) places (code_size laws library p built) stand k 8 (ahead (first_state p input).work + 0) (first_state p input) main
 
-  main_reaches : (k : ℕ) → IsSafe p input k → Main k
+  main_reaches : (k : ℕ) → IsSafe p input k → leaves (source_run p input k) ≡ false → Main k
   unfolding source_run
-  main_reaches k well =
-      reaches laws p (code_of library p) places (code_size laws library p built) stand k 8 (places p.main_body) None (first_state p input) (Some 2 ∷ []) [] [] main_meets well.lacks_nothing well.depth_fits
+  main_reaches k well stays =
+      reaches laws p (code_of library p) places (code_size laws library p built) stand k 8 (places p.main_body) None (first_state p input) (Some 2 ∷ []) [] [] main_meets (strays_not (steps p k (first_state p input)) well.lacks_nothing stays) well.depth_fits
 
   as_much_from : (k : ℕ) → Main k → ForwardSimulation library p input k
   unfolding source_run price
@@ -121,8 +123,8 @@ module _ (laws : Laws) (library : List Nodes) (form : IsLibrary library) (means 
         stacks_at_end = λ high return_high end fit e. subst (StaysWithin 0 high 0 return_high) (sym (from_main r.count)) (r.at_end high return_high end fit e);
       }
 
-  pub as_much : (k : ℕ) → IsSafe p input k → ForwardSimulation library p input k
-  as_much k well = as_much_from k (main_reaches k well)
+  pub as_much : (k : ℕ) → IsSafe p input k → leaves (source_run p input k) ≡ false → ForwardSimulation library p input k
+  as_much k well stays = as_much_from k (main_reaches k well stays)
 
   -- ---- the other direction
 
@@ -132,7 +134,7 @@ module _ (laws : Laws) (library : List Nodes) (form : IsLibrary library) (means 
       let two = laws.grows.ends p.data_start c (n + c) start stop' (omega arith) e' in
       sym e' ∙ ap (λ v. v.stop) (sym two ∙ one) ∙ e
 
-  no_more_by : (n c : ℕ) (o : Outcome) → lacks o ≡ false → Shows (code_of library p) (open_run (laid_out library p) input c) o → (end_of o ≡ None → n ≤ c) →
+  no_more_by : (n c : ℕ) (o : Outcome) → strays o ≡ false → Shows (code_of library p) (open_run (laid_out library p) input c) o → (end_of o ≡ None → n ≤ c) →
       IsPrefixOf (open_run (laid_out library p) input n).printed (world_of o).printed × ((stop : Stop) → (open_run (laid_out library p) input n).stop ≡ Some stop → (end : End) × (end_of o ≡ Some end) × (machine_end end ≡ Some stop))
   no_more_by n c (Goes s) sound shows far =
       let front = laws.grows.prints p.data_start n c start (far refl) in (
@@ -148,14 +150,14 @@ module _ (laws : Laws) (library : List Nodes) (form : IsLibrary library) (means 
         λ stop' e. (end, refl, stop.1 ∙ same_end n c stop' stop.0 e stopped),
       )
 
-  pub no_more : (n : ℕ) → IsSafe p input (word_steps p n) → BackwardSimulation library p input n
-  no_more n well =
-      let m = as_much (word_steps p n) well in
-      let parts = no_more_by n m.count (source_run p input (word_steps p n)) well.lacks_nothing m.shows (λ e. let lt : n < m.count = m.far_enough n (omega arith) e in omega (arith, lt)) in
+  pub no_more : (n : ℕ) → IsSafe p input (word_steps p n) → leaves (source_run p input (word_steps p n)) ≡ false → BackwardSimulation library p input n
+  no_more n well stays =
+      let m = as_much (word_steps p n) well stays in
+      let parts = no_more_by n m.count (source_run p input (word_steps p n)) (strays_not (source_run p input (word_steps p n)) well.lacks_nothing stays) m.shows (λ e. let lt : n < m.count = m.far_enough n (omega arith) e in omega (arith, lt)) in
       record { prints = parts.0; ends = parts.1 }
 
 pub images_agree : Laws → ImagesAgree
 images_agree laws = record {
-  forward = λ library p input k form means built space bytes well. as_much laws library form means p built space input bytes k well;
-  backward = λ library p input n form means built space bytes well. no_more laws library form means p built space input bytes n well;
+  forward = λ library p input k form means built space bytes well stays. as_much laws library form means p built space input bytes k well stays;
+  backward = λ library p input n form means built space bytes well stays. no_more laws library form means p built space input bytes n well stays;
 }

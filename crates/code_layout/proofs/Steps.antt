@@ -11,7 +11,7 @@ use Rattle.j1_simulator.specs.Step.{Stop}
 use Rattle.j1_simulator.specs.OpenMachine.{top_cell as top, rest, open_storage}
 use Rattle.j1_simulator.specs.Run.{run}
 use Rattle.forth_program.specs.Tail.{ends_body}
-use Rattle.forth_program.specs.State.{Entry, Work, TrueEnd, Frame, World, State, End, Halted, InputEnded, Outside, Underflow, Unbalanced, Outcome, Goes, Ends}
+use Rattle.forth_program.specs.State.{Entry, Work, TrueEnd, Frame, World, State, End, Halted, InputEnded, Outside, Underflow, Unbalanced, Left, Outcome, Goes, Ends}
 use Rattle.forth_program.specs.Program.{SourceProgram, body_of}
 use Rattle.forth_program.specs.Step.{IsWord, before, word_step, called, on_flag}
 use Rattle.forth_program.specs.Price.{word_price}
@@ -75,11 +75,12 @@ module _ (laws : Laws) (p : SourceProgram) (code : List ℕ) (place : ℕ → �
     pub at_end : StaysWithin 0 high 0 return_high (run open_storage p.data_start count v)
     pub cheap : count ≤ price + 3
 
-  -- unless cells or entries are lacking
+  -- unless cells or entries are lacking, or GO leads away
   abbrev pub Follows : OpenConfiguration → ℕ → ℕ → ℕ → ℕ → Outcome → Type 0
   Follows v price now high return_high (Goes after) = Comes v price now high return_high after
   Follows v price now high return_high (Ends Underflow world) = Unit {0}
   Follows v price now high return_high (Ends Unbalanced world) = Unit {0}
+  Follows v price now high return_high (Ends (Left address) world) = Unit {0}
   Follows v price now high return_high (Ends end world) = Halts v price high return_high end world
 
   pub halts_after : (v v' : OpenConfiguration) (n price most high return_high : ℕ) (end : End) (world : World) → n + price ≤ most →
@@ -149,6 +150,7 @@ module _ (laws : Laws) (p : SourceProgram) (code : List ℕ) (place : ℕ → �
       }
   follows_after v v' n price most now high return_high (Ends Underflow world) le runs f = tt
   follows_after v v' n price most now high return_high (Ends Unbalanced world) le runs f = tt
+  follows_after v v' n price most now high return_high (Ends (Left address) world) le runs f = tt
   follows_after v v' n price most now high return_high (Ends (Halted status) world) le runs f = halts_after v v' n price most high return_high (Halted status) world le runs f
   follows_after v v' n price most now high return_high (Ends InputEnded world) le runs f = halts_after v v' n price most high return_high InputEnded world le runs f
   follows_after v v' n price most now high return_high (Ends (Outside address) world) le runs f = halts_after v v' n price most high return_high (Outside address) world le runs f
@@ -248,6 +250,7 @@ module _ (laws : Laws) (p : SourceProgram) (code : List ℕ) (place : ℕ → �
         }
     word_follows word next w es c (Ends Underflow world') e plain fit stands s l n fe fc room back = tt
     word_follows word next w es c (Ends Unbalanced world') e plain fit stands s l n fe fc room back = tt
+    word_follows word next w es c (Ends (Left address) world') e plain fit stands s l n fe fc room back = tt
     word_follows word next w es c (Ends (Halted status) world') e plain fit stands s l n fe fc room back = word_halts word next w es c (Halted status) world' refl e plain fit stands fe fc room back
     word_follows word next w es c (Ends InputEnded world') e plain fit stands s l n fe fc room back = word_halts word next w es c InputEnded world' refl e plain fit stands fe fc room back
     word_follows word next w es c (Ends (Outside address) world') e plain fit stands s l n fe fc room back = word_halts word next w es c (Outside address) world' refl e plain fit stands fe fc room back

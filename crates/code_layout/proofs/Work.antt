@@ -1,5 +1,5 @@
 -- Where the code of work stands: each item at a place, and then the code of what follows it.
-use Rattle.std.proofs.Common.{◌≡◌, ℕ, ◌+◌, ◌*◌, ◌<◌, ◌≤◌, ◌⊎◌, inl, inr, Bool, true, false, List, [], ◌∷◌, length, Option, Some, None, refl, sym, ap, subst, arith}
+use Rattle.std.proofs.Common.{◌≡◌, ℕ, ◌+◌, ◌*◌, ◌<◌, ◌≤◌, ◌⊎◌, inl, inr, Bool, true, false, List, [], ◌∷◌, length, slice_index, Option, Some, None, refl, sym, ap, subst, arith}
 use Rattle.j1_table.specs.declared.instr.Instr.TheVariants.{Jump, Branch, Call as CallTo}
 use Rattle.j1_table.specs.Instruction.{decoded}
 use Rattle.j1_simulator.specs.Effect.{following}
@@ -17,7 +17,7 @@ use Rattle.word_laws.specs.Numbers.{number_cells}
 use Rattle.word_laws.specs.Standing.{return_places, standing_at_depths, StandIn, machine_at}
 use Rattle.word_laws.specs.Words.{stands_plain}
 use Rattle.word_table.specs.declared.word.Word.{Word}
-use Rattle.word_table.specs.declared.word.Word.TheVariants.{Execute, TypeOut}
+use Rattle.word_table.specs.declared.word.Word.TheVariants.{Execute, Go, TypeOut}
 use Rattle.forth_program.specs.declared.item.TextKind.{TextKind}
 use Rattle.forth_program.specs.declared.item.TextKind.TheVariants as text
 use Rattle.word_laws.specs.Rings.{OpenConfiguration}
@@ -176,6 +176,13 @@ module _ (code : List ℕ) (place : ℕ → ℕ) (p : SourceProgram) where
   abbrev pub ExecuteStands : Bool → ℕ → Word → (ℕ → Type 0) → Type 0
   ExecuteStands tail pc word K = (word ≡ Execute) × (at : ℕ) × CallStands tail pc at (K (following pc)) × IsExecutor at
 
+  -- the code at a place takes the top cell, and goes on where it tells
+  abbrev pub IsLeaver : ℕ → Type 0
+  IsLeaver at = (slice_index code at ≡ 0x6147) × (at < length code) × Returns (following at)
+
+  abbrev pub GoStands : Bool → ℕ → Word → (ℕ → Type 0) → Type 0
+  GoStands tail pc word K = (word ≡ Go) × (at : ℕ) × CallStands tail pc at (K (following pc)) × IsLeaver at
+
   -- what follows the address and the length of a text
   abbrev pub TextStands : Bool → ℕ → TextKind → (ℕ → Type 0) → Type 0
   TextStands tail pc text.Address K = K pc
@@ -225,7 +232,7 @@ module _ (code : List ℕ) (place : ℕ → ℕ) (p : SourceProgram) where
   abbrev mutual
     pub Placed : Option ℕ → ℕ → Bool → Node → (ℕ → Type 0) → Type 0
     Placed out pc tail (Literal value) K = (next : ℕ) × (value < 65536) × StandIn code pc (number_cells value) next × K next
-    Placed out pc tail (Plain word) K = PlainStands tail pc word K ⊎ ExecuteStands tail pc word K
+    Placed out pc tail (Plain word) K = PlainStands tail pc word K ⊎ (ExecuteStands tail pc word K ⊎ GoStands tail pc word K)
     Placed out pc tail (Call d) K = (d < length p.bodies) × CallStands tail pc (place d) (K (following pc))
     Placed out pc tail (Child d address) K = ChildStands tail pc d address K
     Placed out pc tail (Text kind address characters) K = TextItemStands tail pc kind address characters K
@@ -257,7 +264,8 @@ module _ (code : List ℕ) (place : ℕ → ℕ) (p : SourceProgram) where
     pub placed_more : (node : Node) (tail : Bool) (out : Option ℕ) (pc : ℕ) (K K' : ℕ → Type 0) → ((q : ℕ) → K q → K' q) → Placed out pc tail node K → Placed out pc tail node K'
     placed_more (Literal value) tail out pc K K' f h = (h.0, h.1, h.2, f h.0 h.3)
     placed_more (Plain word) tail out pc K K' f (inl h) = inl (plain_more tail pc word K K' f h)
-    placed_more (Plain word) tail out pc K K' f (inr h) = inr (h.0, h.1, call_more tail pc h.1 (K (following pc)) (K' (following pc)) (f (following pc)) h.2, h.3)
+    placed_more (Plain word) tail out pc K K' f (inr (inl h)) = inr (inl (h.0, h.1, call_more tail pc h.1 (K (following pc)) (K' (following pc)) (f (following pc)) h.2, h.3))
+    placed_more (Plain word) tail out pc K K' f (inr (inr h)) = inr (inr (h.0, h.1, call_more tail pc h.1 (K (following pc)) (K' (following pc)) (f (following pc)) h.2, h.3))
     placed_more (Call d) tail out pc K K' f h = (h.0, call_more tail pc (place d) (K (following pc)) (K' (following pc)) (f (following pc)) h.1)
     placed_more (Child d address) tail out pc K K' f h = record {
       next = h.next;

@@ -1,12 +1,12 @@
 -- What the image of a program does on the open machine, and what its source means.
-use Rattle.std.specs.Prelude.{◌≡◌, ◌≢◌, ℕ, ◌+◌, ◌*◌, ◌/◌, ◌<◌, ◌≤◌, List, ◌++◌, Option, Some, None}
+use Rattle.std.specs.Prelude.{◌≡◌, ◌≢◌, ℕ, ◌+◌, ◌*◌, ◌/◌, ◌<◌, ◌≤◌, false, List, ◌++◌, Option, Some, None}
 use Rattle.std.specs.List.{All}
 use Rattle.cell_math.specs.Bytes.{filled}
 use Rattle.j1_simulator.specs.Step.{Stop, Missing}
 use Rattle.j1_simulator.specs.Run.{begun, open_start, open_run, IsPrefixOf}
 use Rattle.forth_program.specs.State.{End, Outcome, Goes, Ends}
 use Rattle.forth_program.specs.Program.{SourceProgram}
-use Rattle.forth_program.specs.Run.{source_run, world_of, end_of}
+use Rattle.forth_program.specs.Run.{source_run, world_of, end_of, leaves}
 use Rattle.forth_program.specs.Price.{price}
 use Rattle.word_laws.specs.Rings.{OpenConfiguration, BeforeEach}
 use Rattle.word_laws.specs.Bounds.{StaysWithin}
@@ -57,7 +57,7 @@ pub record ForwardSimulation (library : List Nodes) (p : SourceProgram) (input :
 abbrev pub ImagesSimulateForward : Type 0
 ImagesSimulateForward =
     (library : List Nodes) (p : SourceProgram) (input : List ℕ) (k : ℕ) → IsLibrary library → LibraryMeans library → IsBuilt library p →
-    AreBytes p.first_space → AreBytes input → IsSafe p input k → ForwardSimulation library p input k
+    AreBytes p.first_space → AreBytes input → IsSafe p input k → leaves (source_run p input k) ≡ false → ForwardSimulation library p input k
 
 -- what n instructions print is a beginning of what those word steps print, and where they have ended the source has ended alike
 pub record BackwardSimulation (library : List Nodes) (p : SourceProgram) (input : List ℕ) (n : ℕ) : Type 0 where
@@ -67,9 +67,9 @@ pub record BackwardSimulation (library : List Nodes) (p : SourceProgram) (input 
 abbrev pub ImagesSimulateBackward : Type 0
 ImagesSimulateBackward =
     (library : List Nodes) (p : SourceProgram) (input : List ℕ) (n : ℕ) → IsLibrary library → LibraryMeans library → IsBuilt library p →
-    AreBytes p.first_space → AreBytes input → IsSafe p input (word_steps p n) → BackwardSimulation library p input n
+    AreBytes p.first_space → AreBytes input → IsSafe p input (word_steps p n) → leaves (source_run p input (word_steps p n)) ≡ false → BackwardSimulation library p input n
 
--- both hold of every built program, with every library that means its words
+-- both hold of every built program, with every library that means its words, as long as GO has not led the run out of the source
 pub record ImagesAgree : Type 0 where
   pub forward : ImagesSimulateForward
   pub backward : ImagesSimulateBackward

@@ -10,14 +10,15 @@ use Rattle.forth_program.specs.SourceTokens.{all_tokens}
 use Rattle.forth_program.specs.Form.{everywhere, leaves_fit, may_be_token}
 use Rattle.console_ports.specs.DataSpace.{IsDataStart}
 use Rattle.word_laws.specs.Words.{stands_plain}
-use Rattle.code_layout.specs.Layout.{Routine, Library, Executing, routine_of, laid_out}
+use Rattle.code_layout.specs.Layout.{Routine, Library, Executing, Leaving, routine_of, laid_out}
 
--- a word that is laid out: one of the first so many of the library, EXECUTE if it is allowed, or an inline word or a word on
+-- a word that is laid out: one of the first so many of the library, EXECUTE and GO if they are allowed, or an inline word or a word on
 -- return entries
 abbrev pub word_is_laid_out : Bool → ℕ → Option Routine → Word → Bool
 word_is_laid_out executes words None word = stands_plain word
 word_is_laid_out executes words (Some (Library number)) word = nat_lt number words
 word_is_laid_out executes words (Some Executing) word = executes
+word_is_laid_out executes words (Some Leaving) word = executes
 word_is_laid_out executes words (Some routine) word = false
 
 -- a text is printed by TYPE
@@ -25,7 +26,7 @@ abbrev pub text_is_laid_out : ℕ → TextKind → Bool
 text_is_laid_out words text.Address = true
 text_is_laid_out words kind = nat_lt 34 words
 
--- an item that is laid out, where there are so many library words and definitions, and where EXECUTE and texts may stand or not: numbers are
+-- an item that is laid out, where there are so many library words and definitions, and where EXECUTE, GO and texts may stand or not: numbers are
 -- cells, calls and children lead to definitions, and the addresses of children and texts and the length of a text are below 0x8000
 abbrev pub is_laid_out : Bool → ℕ → ℕ → Node → Bool
 is_laid_out executes words count (Literal value) = nat_lt value 0x10000
@@ -35,7 +36,7 @@ is_laid_out executes words count (Child definition address) = nat_lt definition 
 is_laid_out executes words count (Text kind address characters) = executes && text_is_laid_out words kind && nat_lt address 0x8000 && nat_lt characters 0x8000
 is_laid_out executes words count node = true
 
--- a token that is laid out: a definition, a child, a number, or a word that is neither EXECUTE nor of class structure
+-- a token that is laid out: a definition, a child, a number, or a word that is neither EXECUTE nor GO nor of class structure
 abbrev pub token_is_laid_out : ℕ → ℕ → Node → Bool
 token_is_laid_out words count (Literal value) = nat_lt value 0x10000
 token_is_laid_out words count (Plain word) = may_be_token (Plain word) && is_laid_out false words count (Plain word)

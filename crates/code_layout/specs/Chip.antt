@@ -1,10 +1,10 @@
 -- What the run of an image on the chip, whose stacks are rings, has to do with the meaning of its source.
-use Rattle.std.specs.Prelude.{◌≡◌, ℕ, ◌/◌, ◌≤◌, ℤ, pos, List, drop, Some}
+use Rattle.std.specs.Prelude.{◌≡◌, ℕ, ◌/◌, ◌≤◌, false, ℤ, pos, List, drop, Some}
 use Rattle.j1_simulator.specs.Step.{Stop}
 use Rattle.j1_simulator.specs.Run.{round_run, IsPrefixOf}
 use Rattle.forth_program.specs.State.{End}
 use Rattle.forth_program.specs.Program.{SourceProgram}
-use Rattle.forth_program.specs.Run.{source_run, world_of, end_of}
+use Rattle.forth_program.specs.Run.{source_run, world_of, end_of, leaves}
 use Rattle.forth_program.specs.Price.{price}
 use Rattle.word_laws.specs.Standing.{machine_end}
 use Rattle.forth_program.specs.Tree.{Nodes}
@@ -38,8 +38,8 @@ pub record AgreesOnChip (library : List Nodes) (p : SourceProgram) (input : List
   pub stacks_hold : (high return_high : ℕ) → ((k : ℕ) → StacksFit p input high return_high k) → (n : ℕ) →
       DepthStaysWithin high (round_run (laid_out library p) input n).data_depth × DepthStaysWithin return_high (round_run (laid_out library p) input n).return_depth
 
--- so it is of every built program that never lacks cells or return entries, and whose steps never take more cells than the chip has
+-- so it is of every built program that never lacks cells or return entries, whose run GO never leads out of the source, and whose steps never take more cells than the chip has
 abbrev pub ChipsAgree : Type 0
 ChipsAgree =
     (library : List Nodes) (p : SourceProgram) (input : List ℕ) → IsLibrary library → LibraryMeans library → IsBuilt library p → AreBytes p.first_space →
-    AreBytes input → ((k : ℕ) → IsSafe p input k) → ((k : ℕ) → StacksFit p input 33 32 k) → AgreesOnChip library p input
+    AreBytes input → ((k : ℕ) → IsSafe p input k) → ((k : ℕ) → leaves (source_run p input k) ≡ false) → ((k : ℕ) → StacksFit p input 33 32 k) → AgreesOnChip library p input

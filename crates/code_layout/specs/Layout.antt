@@ -1,15 +1,16 @@
 -- The image of a program: a header of eight cells, a jump for each execution token, the code of each library word, that of
--- EXECUTE and ABORT", that of each definition, and that of the tokens that have none. A call in tail position is a jump, and no return
--- follows it.
+-- EXECUTE and ABORT", that of each definition, that of the tokens that have none, and that of GO, if it is used. A call in tail position
+-- is a jump, and no return follows it.
 use Rattle.std.specs.Prelude.{ℕ, zero, suc, ◌+◌, Bool, true, false, not, ◌||◌, List, [], ◌∷◌, ◌++◌, length, Option, Some, None}
 use Rattle.word_table.specs.declared.word.Word.{Word}
-use Rattle.word_table.specs.declared.word.Word.TheVariants.{And, DropTop, Dup, Equal, Execute, Invert, OnePlus, Over, Plus, RFrom, Swap, ToR, Xor, ZeroLess}
+use Rattle.word_table.specs.declared.word.Word.TheVariants.{And, DropTop, Dup, Equal, Execute, Go, Invert, OnePlus, Over, Plus, RFrom, Swap, ToR, Xor, ZeroLess}
 use Rattle.word_table.specs.Table.{cells_from, cells_of}
 use Rattle.forth_program.specs.declared.item.TextKind.{TextKind}
 use Rattle.forth_program.specs.declared.item.TextKind.TheVariants as text
 use Rattle.forth_program.specs.Tree.{Node, Nodes, Arms, Literal, Plain, Call, Child, Text, If, Until, While, Again, Do, QDo, Case, Leave, Exit, Empty, Then, NoArm, Arm}
 use Rattle.forth_program.specs.Tail.{is_tail}
 use Rattle.forth_program.specs.Program.{SourceProgram}
+use Rattle.forth_program.specs.Form.{has_no_go}
 use Rattle.j1_table.specs.Image.{Content}
 use Rattle.word_laws.specs.Control.{halt_cells}
 use Rattle.word_laws.specs.Numbers.{number_cells}
@@ -76,13 +77,14 @@ of_cells other_at = phrase (Over ∷ Equal ∷ []) ++ branch_to other_at ∷ phr
 abbrev pub end_case_cells : List ℕ
 end_case_cells = phrase (DropTop ∷ [])
 
--- ---- what code calls: definitions of the program, library words by their numbers, and the code of EXECUTE and of ABORT"
+-- ---- what code calls: definitions of the program, library words by their numbers, and the code of EXECUTE, of ABORT" and of GO
 
 pub data Routine : Type 0 where
   Definition : (definition : ℕ) → Routine
   Library : (number : ℕ) → Routine
   Executing : Routine
   Aborting : Routine
+  Leaving : Routine
 
 -- the routine of a library word
 abbrev pub numbered : Option ℕ → Option Routine
@@ -92,6 +94,7 @@ numbered (Some number) = Some (Library number)
 -- that of a word, where its cells do not stand in the code that uses it
 abbrev pub routine_of : Word → Option Routine
 routine_of Execute = Some Executing
+routine_of Go = Some Leaving
 routine_of word = numbered (library_number word)
 
 -- TYPE
@@ -298,7 +301,7 @@ abbrev pub bodies_size : List Nodes → ℕ
 bodies_size [] = 0
 bodies_size (body ∷ bodies) = body_size body + bodies_size bodies
 
--- ---- EXECUTE, ABORT" and execution tokens
+-- ---- EXECUTE, ABORT", GO and execution tokens
 
 -- EXECUTE goes on at the cell of its token, which is 7 more, or halts with 13 where there is none of this number:
 -- DUP 1- count U< branch 7 + 2* >R return, 13 to the halt port
@@ -310,6 +313,19 @@ execute_cells at count =
 abbrev pub abort_cells : ℕ → ℕ → List ℕ
 abort_cells at type_at =
     0x6147 ∷ 0x6147 ∷ branch_to (at + 10) ∷ 0x6B8D ∷ 0x6B8D ∷ call_to type_at ∷ 0x8002 ∷ 0xC004 ∷ 0x6023 ∷ 0x6103 ∷ 0x6B8D ∷ 0x6103 ∷ 0x6B8D ∷ 0x6103 ∷ return_cell ∷ []
+
+-- GO takes an address, and goes on there: >R return
+abbrev pub go_cells : List ℕ
+go_cells = 0x6147 ∷ return_cell ∷ []
+
+-- they stand in an image only where some body has GO
+abbrev pub leaving_cells : Bool → List ℕ
+leaving_cells true = []
+leaving_cells false = go_cells
+
+abbrev pub leaving_size : Bool → ℕ
+leaving_size true = 0
+leaving_size false = 2
 
 -- of a token that is a word: that of a library word stands already, and others return
 abbrev pub word_token_cells : ℕ → Option ℕ → Word → List ℕ
@@ -340,6 +356,11 @@ token_size node = 0
 abbrev pub tokens_cells : ℕ → (Routine → ℕ) → List Node → List ℕ
 tokens_cells data_start place [] = []
 tokens_cells data_start place (node ∷ tokens) = token_cells data_start place node ++ tokens_cells data_start place tokens
+
+-- the cells of the code of tokens
+abbrev pub tokens_size : List Node → ℕ
+tokens_size [] = 0
+tokens_size (node ∷ tokens) = token_size node + tokens_size tokens
 
 -- where the code of a token begins, if that of its own would begin at a place
 abbrev pub token_place : (Routine → ℕ) → ℕ → Node → ℕ
@@ -372,11 +393,16 @@ first_place library p = abort_place library p + 15
 abbrev pub tokens_place : List Nodes → SourceProgram → ℕ
 tokens_place library p = first_place library p + bodies_size p.bodies
 
+-- GO, at the end
+abbrev pub leaving_place : List Nodes → SourceProgram → ℕ
+leaving_place library p = tokens_place library p + tokens_size p.tokens
+
 abbrev pub routine_place : List Nodes → SourceProgram → Routine → ℕ
 routine_place library p (Definition definition) = begins_at (first_place library p) p.bodies definition
 routine_place library p (Library number) = begins_at (library_place p) library number
 routine_place library p Executing = execute_place library p
 routine_place library p Aborting = abort_place library p
+routine_place library p Leaving = leaving_place library p
 
 -- cells 0 to 7: MAIN is called, and then 0 is stored at the halt port
 abbrev pub header : ℕ → List ℕ
@@ -391,7 +417,8 @@ laid_out library p =
           ++ (bodies_cells p.data_start place (library_place p) library
           ++ (execute_cells (execute_place library p) (length p.tokens)
           ++ (abort_cells (abort_place library p) (place type_routine)
-          ++ (bodies_cells p.data_start place (first_place library p) p.bodies ++ tokens_cells p.data_start place p.tokens)))));
+          ++ (bodies_cells p.data_start place (first_place library p) p.bodies
+          ++ (tokens_cells p.data_start place p.tokens ++ leaving_cells (has_no_go p)))))));
       bytes = p.first_space;
       data_start = p.data_start;
     }

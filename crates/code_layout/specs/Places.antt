@@ -1,9 +1,9 @@
 -- The places of definitions, one after the other, and those of all routines.
 use Rattle.std.specs.Prelude.{◌≡◌, ℕ, ◌+◌, ◌<◌, List, [], ◌∷◌, length, slice_index, EachIndex}
-use Rattle.forth_program.specs.Tree.{Node, Nodes}
+use Rattle.forth_program.specs.Tree.{Nodes}
 use Rattle.forth_program.specs.Program.{SourceProgram}
 use Rattle.code_layout.specs.declared.places.Places.{Places}
-use Rattle.code_layout.specs.Layout.{library_place, execute_place, abort_place, first_place, tokens_place, Routine, Definition, Library, Executing, Aborting, token_size, body_size}
+use Rattle.code_layout.specs.Layout.{library_place, execute_place, abort_place, first_place, tokens_place, leaving_place, Routine, Definition, Library, Executing, Aborting, Leaving, body_size}
 use Rattle.std.specs.Prelude.{take}
 
 -- where each of them begins, if the first begins at a place
@@ -17,6 +17,7 @@ pub record ArePlaces (places : Places) : Type 0 where
   pub definitions : EachIndex places.definitions.items (λ k. slice_index places.definitions.items k < 8192)
   pub execute : places.execute < 8192
   pub abort : places.abort < 8192
+  pub leaving : places.leaving < 8192
 
 -- where a routine begins
 unfoldable pub place_by : Places → Routine → ℕ
@@ -24,6 +25,7 @@ place_by places (Definition definition) = slice_index places.definitions.items d
 place_by places (Library number) = slice_index places.words.items number
 place_by places Executing = places.execute
 place_by places Aborting = places.abort
+place_by places Leaving = places.leaving
 
 -- the numbers of library words and of definitions
 abbrev pub word_count : Places → ℕ
@@ -36,11 +38,6 @@ definition_count places = length places.definitions.items
 abbrev pub library_of : SourceProgram → List Nodes
 library_of program = take program.main_body program.bodies
 
--- the cells of the code of tokens
-abbrev pub tokens_size : List Node → ℕ
-tokens_size [] = 0
-tokens_size (node ∷ tokens) = token_size node + tokens_size tokens
-
 -- the places of the routines of a program with a library
 pub record PlacesOf (library : List Nodes) (p : SourceProgram) (places : Places) : Type 0 where
   pub words : places.words.items ≡ places_from (library_place p) library
@@ -48,3 +45,4 @@ pub record PlacesOf (library : List Nodes) (p : SourceProgram) (places : Places)
   pub execute : places.execute ≡ execute_place library p
   pub abort : places.abort ≡ abort_place library p
   pub tokens : places.tokens ≡ tokens_place library p
+  pub leaving : places.leaving ≡ leaving_place library p

@@ -1,18 +1,17 @@
--- The code of a program has no more cells than its weight, beside the header, its tokens, EXECUTE and ABORT", and its library.
+-- The code of a program has no more cells than its weight, beside the header, its tokens, EXECUTE, ABORT" and GO, and its library.
 use Rattle.std.specs.Prelude.{◌≡◌, ℕ, ◌+◌, ◌≤◌, Bool, true, List, length}
 use Rattle.std.specs.List.{list_all}
 use Rattle.forth_program.specs.Tree.{Node, Nodes}
 use Rattle.forth_program.specs.Program.{SourceProgram}
-use Rattle.forth_program.specs.Form.{everywhere, inside}
+use Rattle.forth_program.specs.Form.{everywhere, inside, has_no_go}
 use Rattle.forth_program.specs.Weight.{node_weight, bodies_weight, token_weight}
-use Rattle.code_layout.specs.Layout.{node_size, bodies_size, token_size, laid_out}
+use Rattle.code_layout.specs.Layout.{leaving_size, node_size, bodies_size, token_size, tokens_size, laid_out}
 use Rattle.code_layout.specs.Built.{is_laid_out, token_is_laid_out}
-use Rattle.code_layout.specs.Places.{tokens_size}
 
 abbrev pub CodeIsLight : Type 0
 CodeIsLight =
     (library : List Nodes) (p : SourceProgram) → list_all (everywhere (is_laid_out true (length library) (length p.bodies))) p.bodies ≡ true →
-    length (laid_out library p).cells ≤ 38 + length p.tokens + bodies_size library + bodies_weight p.bodies + tokens_size p.tokens
+    length (laid_out library p).cells ≤ 38 + leaving_size (has_no_go p) + length p.tokens + bodies_size library + bodies_weight p.bodies + tokens_size p.tokens
 
 -- an item that is laid out takes at most its weight in cells, with all that it contains
 abbrev pub ItemsAreLight : Type 0

@@ -27,6 +27,7 @@ pub(crate) fn add_plain(
 {
     match word {
         Word::Execute => add_call(code, places.execute, tail),
+        Word::Go => add_call(code, places.leaving, tail),
         _ => match library_number(word) {
             None => add_word(code, word, data_start),
             Some(number) => add_call(code, places.words[number as usize], tail),

@@ -1,10 +1,10 @@
 // Single cells, and the cells of loops.
-ghost use Rattle.std.specs.Prelude.{◌≡◌, ℕ, ◌+◌, ◌<◌, ◌≤◌, ◌++◌, ◌∷◌, [], OnOk, true, false};
+ghost use Rattle.std.specs.Prelude.{◌≡◌, ℕ, ◌+◌, ◌<◌, ◌≤◌, ◌++◌, ◌∷◌, [], OnOk, not, true, false};
 ghost use Rattle.j1_table.specs.declared.instr.Instr.TheVariants.{Jump, Call};
 ghost use Rattle.j1_table.specs.Instruction.{decoded};
 ghost use Rattle.word_table.specs.Table.{cells_from};
 ghost use Rattle.word_laws.specs.Numbers.{number_cells};
-ghost use Rattle.code_layout.specs.Layout.{jump_to, branch_to, call_to, call_cell as cell_of_call, return_cell, cell_if, do_cells as cells_of_do, q_do_cells, of_cells, end_case_cells, plus_loop_cells, turn_cells, out_cells, execute_cells, abort_cells};
+ghost use Rattle.code_layout.specs.Layout.{jump_to, branch_to, call_to, call_cell as cell_of_call, return_cell, cell_if, do_cells as cells_of_do, q_do_cells, of_cells, end_case_cells, plus_loop_cells, turn_cells, out_cells, execute_cells, abort_cells, leaving_cells};
 
 use crate::words::add_phrase;
 use std::alloc::AllocError;
@@ -272,4 +272,15 @@ pub(crate) fn add_abort(code: &mut Vec<u16>, at: u16, type_at: u16) -> Result<()
         0x6103,
         RETURN,
     ])
+}
+
+/// `GO`, where it is used: >R return.
+pub(crate) fn add_leaving(code: &mut Vec<u16>, used: bool) -> Result<(), AllocError>
+    ensures { OnOk result (code.new.items ≡ code.old.items ++ leaving_cells (not used)) }
+{
+    if used {
+        code.extend_from_slice(&[0x6147, RETURN])
+    } else {
+        Ok(())
+    }
 }

@@ -9,11 +9,11 @@ ghost use Rattle.code_layout.specs.Layout.{type_routine, header, bodies_cells, b
 ghost use Rattle.code_layout.specs.Library.{IsLibrary};
 ghost use Rattle.code_layout.specs.Places.{ArePlaces, PlacesOf, places_from, place_by, word_count, definition_count, library_of};
 
-use crate::cells::{add_abort, add_execute, call_cell};
+use crate::cells::{add_abort, add_execute, add_leaving, call_cell};
 use crate::emission::add_body;
 use crate::places::{Places, TYPE};
 use crate::sizes::body_size;
-use crate::tokens::{add_token_jumps, add_tokens};
+use crate::tokens::{add_token_jumps, add_tokens, tokens_size};
 use forth_program::{DefId, Items, Program};
 use j1_table::Image;
 use std::alloc::{AllocError, Global};
@@ -124,12 +124,14 @@ fn routine_places(alloc: Global, library: &Program, program: &Program) -> Result
     let defined = program.def_count();
     let definitions = places_of(alloc, program, defined, abort + 15)?;
     let tokens = abort + 15 + code_size(program, defined);
+    let leaving = tokens + tokens_size(program.tokens());
     Ok(Places {
         words,
         definitions,
         execute,
         abort,
         tokens,
+        leaving,
     })
 }
 
@@ -169,7 +171,7 @@ fn add_library(
     add_abort(code, places.abort, type_place(places))
 }
 
-// The header, the jumps of the tokens, the code of the library and of all definitions, and that of the tokens.
+// The header, the jumps of the tokens, the code of the library and of all definitions, that of the tokens, and that of GO.
 fn code_of(alloc: Global, library: &Program, program: &Program) -> Result<Vec<u16>, AllocError>
     requires library { IsLibrary (library_of library.now) }
     requires program { IsBuilt (library_of library.now) program.now }
@@ -190,12 +192,13 @@ fn code_of(alloc: Global, library: &Program, program: &Program) -> Result<Vec<u1
     )?;
     add_bodies(&mut code, program, count, &places, data_start)?;
     add_tokens(&mut code, tokens, &places, data_start)?;
+    add_leaving(&mut code, program.uses_go())?;
     Ok(code)
 }
 
 /// The image of a program with a library, whose words are the definitions before its MAIN. Cells 0 to 7 call the program's MAIN
 /// and halt with 0. There follow a jump for each execution token, the code of each library word, that of `EXECUTE` and of `ABORT"`,
-/// that of each definition, and that of the tokens that have none. Last calls are jumps. An error is want of memory.
+/// that of each definition, that of the tokens that have none, and that of `GO`, if it is used. Last calls are jumps. An error is want of memory.
 pub fn lay_out(alloc: Global, library: &Program, program: &Program) -> Result<Image, AllocError>
     requires library { IsLibrary (library_of library.now) }
     requires program { IsBuilt (library_of library.now) program.now }

@@ -67,7 +67,8 @@ pub(crate) fn library_number(word: Word) -> Option<u16>
     }
 }
 
-/// The cells where routines begin: each library word, each definition, and the code of `EXECUTE` and of `ABORT"`.
+/// The cells where routines begin: each library word, each definition, and the code of `EXECUTE`, of `ABORT"` and of
+/// `GO`.
 #[derive(Drop)]
 pub(crate) struct Places {
     pub(crate) words: Vec<u16>,
@@ -76,4 +77,6 @@ pub(crate) struct Places {
     pub(crate) abort: u16,
     /// Where the code of the tokens begins.
     pub(crate) tokens: u16,
+    /// Where that of `GO` begins, behind it.
+    pub(crate) leaving: u16,
 }

@@ -48,6 +48,7 @@ fn word_falls_through(word: Word, tail: bool) -> bool
 {
     match word {
         Word::Execute => !tail,
+        Word::Go => !tail,
         _ => match library_number(word) {
             None => true,
             Some(_) => !tail,

@@ -26,6 +26,7 @@ fn word_size(word: Word) -> u16
 {
     match word {
         Word::Execute => 1,
+        Word::Go => 1,
         _ => match library_number(word) {
             None => plain_cells(word).len() as u16,
             Some(_) => 1,

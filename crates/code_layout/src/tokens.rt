@@ -6,8 +6,8 @@ ghost use Rattle.word_laws.specs.Numbers.{number_cells};
 ghost use Rattle.forth_program.specs.Tree.{Plain};
 ghost use Rattle.code_layout.specs.Numbering.{library_number as number_of};
 ghost use Rattle.code_layout.specs.Built.{token_is_laid_out};
-ghost use Rattle.code_layout.specs.Layout.{Definition, jump_to, word_token_cells, word_token_size as word_token_code_size, word_token_place as word_token_code_place, token_size as token_code_size, token_place as token_code_place, token_cells, tokens_cells, token_jumps};
-ghost use Rattle.code_layout.specs.Places.{ArePlaces, place_by, word_count, definition_count, tokens_size};
+ghost use Rattle.code_layout.specs.Layout.{Definition, jump_to, word_token_cells, word_token_size as word_token_code_size, word_token_place as word_token_code_place, token_size as token_code_size, token_place as token_code_place, token_cells, tokens_cells, token_jumps, tokens_size as size_of_tokens};
+ghost use Rattle.code_layout.specs.Places.{ArePlaces, place_by, word_count, definition_count};
 
 use crate::cells::{add_jump, add_number, add_return, add_word};
 use crate::places::{Places, library_number};
@@ -62,6 +62,18 @@ fn token_size(token: Token) -> u16
     }
 }
 
+/// The cells of the code of tokens.
+pub(crate) fn tokens_size(tokens: &[Token]) -> u16
+    requires { size_of_tokens (map token_node tokens.now) ≤ 8000 }
+    ensures { result ≡ size_of_tokens (map token_node tokens.now) }
+{
+    let mut total: u16 = 0;
+    for token in tokens {
+        total = total + token_size(*token);
+    }
+    total
+}
+
 // Where the code of a token begins, if that of its own would begin at a place.
 #[tactic(auto, unfolding(crate::specs::Places::place_by))]
 fn token_place(token: Token, places: &Places, at: u16) -> u16
@@ -84,7 +96,7 @@ pub(crate) fn add_token_jumps(
     first: u16,
 ) -> Result<(), AllocError>
     requires laid_out { list_all (token_is_laid_out (word_count places.now) (definition_count places.now)) (map token_node tokens.now) ≡ true }
-    requires room { first + tokens_size (map token_node tokens.now) ≤ 8000 }
+    requires room { first + size_of_tokens (map token_node tokens.now) ≤ 8000 }
     ensures { OnOk result (code.new.items ≡ code.old.items ++ token_jumps (place_by places.now) first (map token_node tokens.now)) }
 {
     let mut at = first;

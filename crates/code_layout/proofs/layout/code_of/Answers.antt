@@ -1,12 +1,13 @@
 use Rattle.std.proofs.Common.{◌≡◌, ◌++◌, true, length, map, take, sym, ap, ◌∙◌, subst, arith}
+use Rattle.std.specs.Prelude.{not}
 use Rattle.std.specs.List.{list_all}
 use Rattle.std.proofs.Math.Seq.{take-length}
-use Rattle.forth_program.specs.Form.{everywhere}
+use Rattle.forth_program.specs.Form.{everywhere, has_no_go}
 use Rattle.forth_program.specs.Parts.{token_node}
 use Rattle.code_layout.specs.Built.{is_laid_out, token_is_laid_out}
-use Rattle.code_layout.specs.Layout.{type_routine, bodies_size, bodies_cells, execute_cells, abort_cells, token_jumps, tokens_cells}
-use Rattle.code_layout.specs.Places.{place_by, word_count, definition_count, tokens_size, library_of}
-use Rattle.code_layout.proofs.DefinitionPlaces.{room, definitions_are, are_places, main_low, main_is, library_items, program_items, token_items, after_jumps, after_library, cells_are}
+use Rattle.code_layout.specs.Layout.{type_routine, bodies_size, bodies_cells, execute_cells, abort_cells, tokens_size, token_jumps, leaving_cells, tokens_cells}
+use Rattle.code_layout.specs.Places.{place_by, word_count, definition_count, library_of}
+use Rattle.code_layout.proofs.DefinitionPlaces.{room, definitions_are, are_places, main_low, main_is, library_items, program_items, token_items, after_jumps, after_library, not_not, cells_are}
 use Rattle.code_layout.proofs.layout.code_of.Goals as goal
 
 pub place_of-requires : goal.place_of-requires
@@ -93,7 +94,7 @@ returns c =
     let places = c.in_ok-places.places in
     let start = c.data_start-data_start.ensures.value in
     cells_are (library_of c.args.library.now) c.args.program.now c.requires.program c.in_ok-places.places c.in_ok-places.ensures c.in_ok-code.code.items
-    c.add_token_jumps.new.code.items c.add_library.new.code.items c.add_bodies.new.code.items c.add_tokens.new.code.items c.place_of.result places.tokens
+    c.add_token_jumps.new.code.items c.add_library.new.code.items c.add_bodies.new.code.items c.add_tokens.new.code.items c.add_leaving.new.code.items c.place_of.result places.tokens
     (main_is (library_of c.args.library.now) c.args.program.now c.requires.program c.in_ok-places.places c.in_ok-places.ensures c.main.result.0
     c.place_of.result c.place_of.ensures c.main.ensures.value) c.in_ok-places.ensures.tokens c.in_ok-code.ensures
     (c.in_ok-add_token_jumps.ensures ∙ ap (λ tokens. c.in_ok-code.code.items ++ token_jumps place places.tokens tokens) c.tokens-tokens.ensures)
@@ -113,3 +114,5 @@ returns c =
     (ap (λ n. take n c.args.program.now.bodies) c.def_count-count.ensures.value ∙ take-length c.args.program.now.bodies))
     (c.in_ok-add_tokens.ensures ∙ ap (λ d. c.add_bodies.new.code.items ++ tokens_cells d place (map token_node c.tokens-tokens.result.now)) start
     ∙ ap (λ tokens. c.add_bodies.new.code.items ++ tokens_cells c.args.program.now.data_start place tokens) c.tokens-tokens.ensures)
+    (c.in_ok-add_leaving.ensures ∙ ap (λ used. c.add_tokens.new.code.items ++ leaving_cells (not used)) c.uses_go.ensures
+    ∙ ap (λ lacking. c.add_tokens.new.code.items ++ leaving_cells lacking) (not_not (has_no_go c.args.program.now)))

@@ -1,6 +1,6 @@
 use Rattle.std.proofs.Common.{ap, ◌∙◌, take, arith}
 use Rattle.std.proofs.Math.Seq.{take-length}
-use Rattle.code_layout.specs.Layout.{bodies_size}
+use Rattle.code_layout.specs.Layout.{bodies_size, tokens_size}
 use Rattle.code_layout.specs.Places.{library_of}
 use Rattle.code_layout.proofs.DefinitionPlaces.{room}
 use Rattle.code_layout.proofs.layout.routine_places.Goals as goal
@@ -57,4 +57,18 @@ overflow_add-tokens-2 c =
       c.token_count-first.ensures,
       c.code_size.ensures ∙ ap (λ n. bodies_size (take n c.args.library.now.bodies)) c.main-count.ensures.value,
       c.code_size-2.ensures ∙ ap (λ n. bodies_size (take n c.args.program.now.bodies)) c.def_count-defined.ensures.value ∙ ap bodies_size (take-length c.args.program.now.bodies),
+    )
+
+pub tokens_size-requires : goal.tokens_size-requires
+tokens_size-requires c = omega (arith, room (library_of c.args.library.now) c.args.program.now c.requires, ap tokens_size c.tokens.ensures)
+
+pub overflow_add-leaving : goal.overflow_add-leaving
+overflow_add-leaving c =
+    omega (
+      arith,
+      room (library_of c.args.library.now) c.args.program.now c.requires,
+      c.token_count-first.ensures,
+      c.code_size.ensures ∙ ap (λ n. bodies_size (take n c.args.library.now.bodies)) c.main-count.ensures.value,
+      c.code_size-2.ensures ∙ ap (λ n. bodies_size (take n c.args.program.now.bodies)) c.def_count-defined.ensures.value ∙ ap bodies_size (take-length c.args.program.now.bodies),
+      c.tokens_size.ensures ∙ ap tokens_size c.tokens.ensures,
     )
