@@ -1,9 +1,13 @@
 -- The premises of the agreement on the chip, from a certificate.
-use Rattle.std.proofs.Common.{ℕ, ◌≤◌, List, arith}
-use Rattle.forth_program.specs.Tree.{Nodes}
+use Rattle.std.proofs.Common.{◌≡◌, ℕ, ◌≤◌, true, false, List, [], ◌∷◌, length, refl, arith}
+use Rattle.std.specs.List.{list_all}
+use Rattle.std.proofs.lemmas.Bool.{and_from, and_parts}
+use Rattle.forth_program.specs.Tree.{Node, Nodes, Literal, Plain, Call, Child}
 use Rattle.forth_program.specs.Program.{SourceProgram}
+use Rattle.forth_program.specs.Form.{has_no_go, may_be_token}
+use Rattle.forth_program.specs.RunLaws.{ProgramsStay}
 use Rattle.forth_program.specs.Heights.{StacksFit, IsSafe}
-use Rattle.code_layout.specs.Built.{IsBuilt}
+use Rattle.code_layout.specs.Built.{is_laid_out, token_is_laid_out, IsBuilt}
 use Rattle.code_layout.specs.Library.{IsLibrary, LibraryMeans}
 use Rattle.code_layout.specs.Agreement.{AreBytes}
 use Rattle.code_layout.specs.Chip.{AgreesOnChip, ChipsAgree}
@@ -17,12 +21,26 @@ fits_more p input high return_high k few few_returns fit j s early is =
     let f = fit j s early is in
     (omega (arith, f.0, few), omega (arith, f.1, few_returns), omega (arith, f.2, few_returns))
 
-module _ (agree : ChipsAgree) (fit : CertifiedRunsFit) (library : List Nodes) (p : SourceProgram) (input : List ℕ) (z : Cert)
-    (form : IsLibrary library) (means : LibraryMeans library) (built : IsBuilt library p) (space : AreBytes p.first_space) (bytes : AreBytes input) (valid : IsValid p z) where
+may : (words count : ℕ) (node : Node) → token_is_laid_out words count node ≡ true → may_be_token node ≡ true
+may words count (Plain word) e = (and_parts (may_be_token (Plain word)) (is_laid_out false words count (Plain word)) e).0
+may words count (Literal value) e = refl
+may words count (Call definition) e = refl
+may words count (Child definition address) e = refl
+may words count node e = absurd (let f : false ≡ true = e in cc)
+
+-- what is laid out as a token may be one
+all_may : (words count : ℕ) (tokens : List Node) → list_all (token_is_laid_out words count) tokens ≡ true → list_all may_be_token tokens ≡ true
+all_may words count [] e = refl
+all_may words count (node ∷ tokens) e =
+    let both = and_parts (token_is_laid_out words count node) (list_all (token_is_laid_out words count) tokens) e in
+    and_from (may_be_token node) (list_all may_be_token tokens) (may words count node both.0) (all_may words count tokens both.1)
+
+module _ (agree : ChipsAgree) (fit : CertifiedRunsFit) (stay : ProgramsStay) (library : List Nodes) (p : SourceProgram) (input : List ℕ) (z : Cert)
+    (form : IsLibrary library) (means : LibraryMeans library) (built : IsBuilt library p) (space : AreBytes p.first_space) (bytes : AreBytes input) (lacks_go : has_no_go p ≡ true) (valid : IsValid p z) where
   agrees : AgreesOnChip library p input
   agrees =
       let f = fit p z valid in
-      agree library p input form means built space bytes (f.2 input).goes_well (λ k. fits_more p input (most_cells p z) (most_return_cells p z) k f.0 f.1 ((f.2 input).stacks_fit k))
+      agree library p input form means built space bytes (f.2 input).goes_well (λ k. stay p input k lacks_go (all_may (length library) (length p.bodies) p.tokens built.token_items)) (λ k. fits_more p input (most_cells p z) (most_return_cells p z) k f.0 f.1 ((f.2 input).stacks_fit k))
 
   keeps_tight : KeepsTight library p input z
   keeps_tight =
@@ -32,8 +50,8 @@ module _ (agree : ChipsAgree) (fit : CertifiedRunsFit) (library : List Nodes) (p
         return_stack = λ n. (agrees.stacks_hold (most_cells p z) (most_return_cells p z) within.stacks_fit n).1;
       }
 
-pub certified_chips : ChipsAgree → CertifiedRunsFit → CertifiedChipsAgree
-certified_chips agree fit library p input form means built space bytes z = agrees agree fit library p input z.0 form means built space bytes z.1
+pub certified_chips : ChipsAgree → CertifiedRunsFit → ProgramsStay → CertifiedChipsAgree
+certified_chips agree fit stay library p input form means built space bytes lacks_go z = agrees agree fit stay library p input z.0 form means built space bytes lacks_go z.1
 
-pub certified_tight : ChipsAgree → CertifiedRunsFit → CertifiedChipsKeepTight
-certified_tight agree fit library p input z form means built space bytes valid = keeps_tight agree fit library p input z form means built space bytes valid
+pub certified_tight : ChipsAgree → CertifiedRunsFit → ProgramsStay → CertifiedChipsKeepTight
+certified_tight agree fit stay library p input z form means built space bytes lacks_go valid = keeps_tight agree fit stay library p input z form means built space bytes lacks_go valid

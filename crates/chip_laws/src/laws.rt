@@ -3,14 +3,16 @@ ghost use Rattle.chip_laws.specs.Certified.{CertifiedChipsAgree, CertifiedChipsK
 
 use code_layout::chips_agree;
 use depth_certifier::certified_runs_fit;
+use forth_program::sources_stay;
 
-/// On the chip a built program with a valid certificate prints what its source means, both ways and within stated steps, ends
+/// On the chip a built program without `GO` and with a valid certificate prints what its source means, both ways and within stated steps, ends
 /// alike, and wraps no stack.
 pub fn certified_chips_agree()
     ensures { CertifiedChipsAgree }
 {
     chips_agree();
     certified_runs_fit();
+    sources_stay();
 }
 
 /// Along the run the data counter is at most the greater of the peak of MAIN and, where MAIN has an exit, its high end plus 2, and
@@ -20,4 +22,5 @@ pub fn certified_chips_keep_tight()
 {
     chips_agree();
     certified_runs_fit();
+    sources_stay();
 }

@@ -1,4 +1,4 @@
-//! On the chip a built program with a certificate agrees with its source.
+//! On the chip a built program without `GO` and with a certificate agrees with its source.
 #![tactic(auto)]
 
 mod laws;
