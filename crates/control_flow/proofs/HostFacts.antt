@@ -107,11 +107,12 @@ moved_knows N w from at m k = still_knows N from at m.entries m.host (omega (ari
 pub moved_ticks : (w : ℕ) (from at : ParserState) → Moves w from at → ticks at ≡ ticks from
 moved_ticks w from at m = ap (λ (h : Host). tokens_weight (token_nodes h.tokens)) m.host
 
--- ---- a place was passed, and names, definitions, structures and weights stayed as they were
+-- ---- a place was passed, and names, definitions, the vocabulary, structures and weights stayed as they were
 
 pub record Goes (from at : ParserState) : Type 0 where
   pub entries : at.entries ≡ from.entries
   pub definitions : at.definitions ≡ from.definitions
+  pub words : at.words ≡ from.words
   pub nest : at.nest ≡ from.nest
   pub weight : at.weight ≡ from.weight
   pub count : from.count ≤ at.count
@@ -121,6 +122,7 @@ pub goes_then : (from mid at : ParserState) → Goes from mid → Goes mid at �
 goes_then from mid at g h = record {
   entries = h.entries ∙ g.entries;
   definitions = h.definitions ∙ g.definitions;
+  words = h.words ∙ g.words;
   nest = h.nest ∙ g.nest;
   weight = h.weight ∙ g.weight;
   count = omega (arith, g.count, h.count);
@@ -185,7 +187,7 @@ settles_keeps from s h = record {
 }
 
 pub same_goes : (from : ParserState) (s : Host) → Goes from (record from { host = s })
-same_goes from s = record { entries = refl; definitions = refl; nest = refl; weight = refl; count = omega arith; left = omega arith }
+same_goes from s = record { entries = refl; definitions = refl; words = refl; nest = refl; weight = refl; count = omega arith; left = omega arith }
 
 module _ (keep : HostWordsKeep) where
   pub keeps_of : (from : Host) → IsSound from → HostKeeps from.space.data_start from.tokens from
@@ -211,7 +213,7 @@ module _ (keep : HostWordsKeep) where
   host_token_on from (Refuses k c) h = tt
   host_token_on from (Reads token k rest) h = record {
     passed = record {
-      goes = record { entries = refl; definitions = refl; nest = refl; weight = refl; count = omega (arith, h.0); left = omega (arith, h.1) };
+      goes = record { entries = refl; definitions = refl; words = refl; nest = refl; weight = refl; count = omega (arith, h.0); left = omega (arith, h.1) };
       keeps = reads_on from rest k;
       count = h.0;
       left = h.1;
@@ -263,7 +265,7 @@ pub record QuotationRead (from : ParserState) (quotation : Quotation) : Type 0 w
 
 quotation_on : (from : ParserState) (reading : StringReading) → Leaves (length from.rest) reading → Good (QuotationRead from) (quotation_of from reading)
 quotation_on from (Quoted text rest) h = record {
-  goes = record { entries = refl; definitions = refl; nest = refl; weight = refl; count = omega arith; left = h };
+  goes = record { entries = refl; definitions = refl; words = refl; nest = refl; weight = refl; count = omega arith; left = h };
   keeps = reads_on from rest from.count;
 }
 quotation_on from (Unquoted c) h = tt

@@ -48,7 +48,7 @@ module _ (keep : HostWordsKeep) where
 
 -- the same place, behind a DOES> or not
 pub goes_does : (from at : ParserState) (does : Bool) → Goes from at → Goes from (record at { does = does })
-goes_does from at does g = record { entries = g.entries; definitions = g.definitions; nest = g.nest; weight = g.weight; count = g.count; left = g.left }
+goes_does from at does g = record { entries = g.entries; definitions = g.definitions; words = g.words; nest = g.nest; weight = g.weight; count = g.count; left = g.left }
 
 pub keeps_does : (from at : ParserState) (does : Bool) → Keeps from at → Keeps from (record at { does = does })
 keeps_does from at does k = record {

@@ -3,6 +3,8 @@ use Rattle.std.proofs.Common.{◌≡◌, ℕ, suc, ◌+◌, ◌<◌, ◌≤◌, 
 use Rattle.std.specs.Prelude.{codes, Result, Ok, Err}
 use Rattle.std.proofs.lemmas.List.{append_assoc, take-append-drop}
 use Rattle.std.proofs.Math.Seq.{take-append_seam, take-length}
+use Rattle.word_table.specs.declared.word.Vocabulary.{Vocabulary}
+use Rattle.word_table.specs.declared.word.Vocabulary.TheVariants as vocabulary
 use Rattle.dictionary_core.specs.Pairs.{newest_value}
 use Rattle.forth_program.specs.Program.{SourceProgram}
 use Rattle.control_flow.specs.declared.refusal.SourceCause.TheVariants as cause
@@ -10,9 +12,9 @@ use Rattle.control_flow.specs.declared.refusal.SourceError.{SourceError}
 use Rattle.control_flow.specs.declared.refusal.SourceError.TheVariants as error
 use Rattle.control_flow.specs.declared.source.ReadSource.{ReadSource}
 use Rattle.control_flow.specs.ParseResult.{ParseResult, Fine, Refused}
-use Rattle.control_flow.specs.SourceText.{Source, program_with, main_of, source_start, program_of_source, program_of_text}
+use Rattle.control_flow.specs.SourceText.{Source, program_with, main_of, source_start, program_of_source, program_in, program_of_text}
 use Rattle.control_flow.specs.Answers.{parser_state, source_of, IsReadyParser, IsCounted, FailsAs, AnswersAs}
-use Rattle.control_flow.specs.Pieces.{read_at, source_of_text, LacksOnlyMain, IsReadable, with_piece, CannotBeRead, LacksMain}
+use Rattle.control_flow.specs.Pieces.{read_at, source_in, source_of_text, LacksOnlyMain, IsReadable, with_piece, CannotBeRead, LacksMain}
 use Rattle.control_flow.specs.ReadingState.{BeginsWith, Grows, IsReadTo, KeepsRead}
 use Rattle.control_flow.proofs.ItemLists.{fails_then, fails_as}
 use Rattle.control_flow.proofs.SourceMore.{ended, program_of_end, ReadOn, read_on, refused_before}
@@ -50,13 +52,13 @@ main_on source (Some main) = tt
 main_on source None = refl
 
 pub readable : (text : List ℕ) (last : Source) → source_of_text text ≡ Fine last → IsReadable text
-readable text last e = subst LacksOnlyMain (sym (program_of_end text ∙ ap ended e)) (main_on last (main_of (newest_value last.at.entries (codes "MAIN"))))
+readable text last e = subst LacksOnlyMain (sym (program_of_end vocabulary.Source text ∙ ap ended e)) (main_on last (main_of (newest_value last.at.entries (codes "MAIN"))))
 
-pub program_is : (text : List ℕ) (last : Source) → source_of_text text ≡ Fine last → program_of_text text ≡ program_of_source last last.at
-program_is text last e = program_of_end text ∙ ap ended e
+pub program_is : (words : Vocabulary) (text : List ℕ) (last : Source) → source_in words text ≡ Fine last → program_in words text ≡ program_of_source last last.at
+program_is words text last e = program_of_end words text ∙ ap ended e
 
 pub cannot_be_read : (text : List ℕ) (e : SourceError) → FailsAs e (source_of_text text) → CannotBeRead e (program_of_text text)
-cannot_be_read text (error.Refused r) f = (program_of_end text ∙ ap ended f, refused_before text r.token r.cause f)
+cannot_be_read text (error.Refused r) f = (program_of_end vocabulary.Source text ∙ ap ended f, refused_before text r.token r.cause f)
 cannot_be_read text error.OutOfMemory f = tt
 
 lacks_on : (e : SourceError) (o : ParseResult SourceProgram) → LacksOnlyMain o → FailsAs e o → LacksMain e
@@ -68,16 +70,17 @@ lacks_main text last e is f = lacks_on e (program_of_text text) (readable text l
 
 -- ---- a text that is read from its start
 
-pub text_ends : (text : List ℕ) (first last : Source) → first ≡ source_start text → ((n : ℕ) → length first.at.rest < n → read_at n first ≡ Fine last) → source_of_text text ≡ Fine last
-text_ends text first last s f = ap (read_at (suc (length text))) (sym s) ∙ f (suc (length text)) (omega (arith, ap (λ (s : Source). length s.at.rest) s))
+pub text_ends : (words : Vocabulary) (text : List ℕ) (first last : Source) → first ≡ source_start words text → ((n : ℕ) → length first.at.rest < n → read_at n first ≡ Fine last) → source_in words text ≡ Fine last
+text_ends words text first last s f = ap (read_at (suc (length text))) (sym s) ∙ f (suc (length text)) (omega (arith, ap (λ (s : Source). length s.at.rest) s))
 
-pub text_fails : (text : List ℕ) (first : Source) (e : SourceError) → first ≡ source_start text → ((n : ℕ) → length first.at.rest < n → FailsAs e (read_at n first)) → FailsAs e (program_of_text text)
-text_fails text first e s f =
-    fails_as e _ _ (program_of_end text)
-    (fails_then e (source_of_text text) _ (subst (λ s. FailsAs e (read_at (suc (length text)) s)) s (f (suc (length text)) (omega (arith, ap (λ (s : Source). length s.at.rest) s)))))
+pub text_fails : (words : Vocabulary) (text : List ℕ) (first : Source) (e : SourceError) → first ≡ source_start words text → ((n : ℕ) → length first.at.rest < n → FailsAs e (read_at n first)) →
+    FailsAs e (program_in words text)
+text_fails words text first e s f =
+    fails_as e _ _ (program_of_end words text)
+    (fails_then e (source_in words text) _ (subst (λ s. FailsAs e (read_at (suc (length text)) s)) s (f (suc (length text)) (omega (arith, ap (λ (s : Source). length s.at.rest) s)))))
 
 -- no text is read to its end at once
-pub nothing_read : source_of_text [] ≡ Fine (source_start [])
+pub nothing_read : source_of_text [] ≡ Fine (source_start vocabulary.Source [])
 unfolding read_at
 nothing_read = refl
 

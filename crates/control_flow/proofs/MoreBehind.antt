@@ -1,10 +1,11 @@
 -- A place of a text behind which more stands on the next line: what is read there is the same, with that behind it.
 use Rattle.std.proofs.Common.{◌≡◌, ℕ, zero, suc, ◌+◌, ◌≤◌, nat_le, nat_lt, Bool, true, false, List, [], ◌∷◌, ◌++◌, length, Option, Some, None, refl, sym, ap, subst, arith}
 use Rattle.std.specs.Prelude.{Result, Ok, Err}
+use Rattle.word_table.specs.declared.word.Vocabulary.{Vocabulary}
 use Rattle.word_table.specs.declared.word.Word.{Word}
 use Rattle.word_table.specs.declared.word.Word.TheVariants as word
 use Rattle.word_table.specs.Table.{entry_of}
-use Rattle.word_table.specs.Names.{word_named}
+use Rattle.word_table.specs.Names.{word_in}
 use Rattle.forth_program.specs.declared.item.TextKind.{TextKind}
 use Rattle.forth_program.specs.Tree.{Node, Nodes, Literal, Plain, Call, Child, Text, Leave, Exit}
 use Rattle.forth_program.specs.Form.{may_be_token}
@@ -111,10 +112,10 @@ word_other : (o : Option Word) → IsOther (word_ticked o)
 word_other (Some w) = word_on w (may_be_token (Plain w))
 word_other None = refl
 
-pub found_other : (o : Option Entry) (name : List ℕ) →
-    IsOther (elim o as (λ o. Result Ticked SourceCause) [ Some entry ↦ known_ticked entry entry.known | None ↦ word_ticked (word_named name) ])
-found_other (Some entry) name = known_other entry entry.known
-found_other None name = word_other (word_named name)
+pub found_other : (words : Vocabulary) (o : Option Entry) (name : List ℕ) →
+    IsOther (elim o as (λ o. Result Ticked SourceCause) [ Some entry ↦ known_ticked entry entry.known | None ↦ word_ticked (word_in words name) ])
+found_other words (Some entry) name = known_other entry entry.known
+found_other words None name = word_other (word_in words name)
 
 module _ (piece : List ℕ) (bound : ℕ) where
   -- a place with a piece more on the next line
@@ -298,7 +299,7 @@ module _ (piece : List ℕ) (bound : ℕ) where
   tick_more : (at : ParserState) → Within at → OneMore (tick_at at) (tick_at (more_at at))
   tick_more at w =
       extends_then more_named (λ named. Within named.at) more_one (λ one. Within one.at) (spelled_at at) (spelled_at (more_at at)) _ _ (spelled_more at w)
-      (λ named v. ticked_more at.count named (ticked_in named.at.entries named.name) (found_other (newest_value named.at.entries named.name) named.name) v)
+      (λ named v. ticked_more at.count named (ticked_in named.at.words named.at.entries named.name) (found_other named.at.words (newest_value named.at.entries named.name) named.name) v)
 
   -- ---- structures, where items go on
 

@@ -40,6 +40,7 @@ good_is P o x e p = subst (Good P) e p
 pub record Moves (w : ℕ) (from at : ParserState) : Type 0 where
   pub entries : at.entries ≡ from.entries
   pub definitions : at.definitions ≡ from.definitions
+  pub words : at.words ≡ from.words
   pub weight : at.weight ≡ from.weight + w
   pub light : at.weight ≤ most_weight at
   pub count : at.count ≡ from.count
@@ -52,6 +53,7 @@ weighs_on number w from at true e s = (
   record {
     entries = sym (ap (λ (p : ParserState). p.entries) s);
     definitions = sym (ap (λ (p : ParserState). p.definitions) s);
+    words = sym (ap (λ (p : ParserState). p.words) s);
     weight = ap (λ n. n + w) (sym (ap (λ (p : ParserState). p.weight) s));
     light = leb-true (at.weight + w) (most_weight at) e;
     count = sym (ap (λ (p : ParserState). p.count) s);

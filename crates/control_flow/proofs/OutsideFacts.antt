@@ -32,7 +32,7 @@ use Rattle.control_flow.specs.SourceText.{Source, OutsideToken, before_by, befor
 use Rattle.control_flow.specs.SourceText.{child_by, resumed, outside_by}
 use Rattle.control_flow.specs.SourceLaw.{is_read_token}
 use Rattle.control_flow.proofs.Readings.{Passes}
-use Rattle.control_flow.proofs.Senses.{AllBelow, IsKnown, below_more, IsTicked, ticked_is}
+use Rattle.control_flow.proofs.Senses.{AllBelow, IsKnown, below_more, IsTicked, ticked_is, LacksGo, still_lacks}
 use Rattle.control_flow.proofs.Moves.{Good, good_then, good_weaker, Moves, weighs}
 use Rattle.control_flow.proofs.HostFacts.{IsSound, Leads, ticks, Knows, moved_ticks, Goes, goes_then, Keeps, keeps_then, reads_on}
 use Rattle.control_flow.proofs.HostFacts.{good_hosted, after_if, settles_keeps, same_goes, keeps_of, ActedRead, acted_read, quoted_read, TickRead, tick_read}
@@ -50,6 +50,7 @@ pub record HostLaws : Type 0 where
 -- what is done from a place on, where definitions have numbers below N
 record WordRead (N : ℕ) (from at : ParserState) : Type 0 where
   definitions : at.definitions ≡ from.definitions
+  words : at.words ≡ from.words
   nest : at.nest ≡ from.nest
   entries : length from.entries ≤ length at.entries
   few : length from.entries ≤ 512 → length at.entries ≤ 512
@@ -70,6 +71,7 @@ word_more source at b s w e = record {
   items = s.items;
   back = s.back;
   leaves = s.leaves;
+  no_go = λ l. s.no_go (still_lacks (sym w.words) l);
   weight = omega (arith, w.weight, s.weight);
   early = e;
   tokens = omega (arith, w.count, s.tokens);
@@ -79,6 +81,7 @@ module _ (N : ℕ) (from : ParserState) (b : Knows N from) where
   kept_read : (at : ParserState) → Goes from at → Keeps from at → WordRead N from at
   kept_read at g k = record {
     definitions = g.definitions;
+    words = g.words;
     nest = g.nest;
     entries = omega (arith, ap length g.entries);
     few = λ h. omega (arith, ap length g.entries, h);
@@ -96,6 +99,7 @@ module _ (N : ℕ) (from : ParserState) (b : Knows N from) where
       let there = kept.knows N b in
       record {
         definitions = g.definitions;
+        words = g.words;
         nest = g.nest;
         entries = omega (arith, more, ap length g.entries);
         few = λ h. omega (arith, more, room);
@@ -179,6 +183,7 @@ module _ (laws : HostLaws) (N : ℕ) (from : ParserState) (b : Knows N from) whe
         good_weaker (λ x. Moves w mid x × (x.nest ≡ mid.nest)) (WordRead N from)
         (λ x m. record {
           definitions = m.0.definitions ∙ s.passed.goes.definitions;
+          words = m.0.words ∙ s.passed.goes.words;
           nest = m.1 ∙ s.passed.goes.nest;
           entries = omega (arith, ap length (m.0.entries ∙ s.passed.goes.entries));
           few = λ h. omega (arith, ap length (m.0.entries ∙ s.passed.goes.entries), h);
@@ -226,7 +231,7 @@ module _ (laws : HostLaws) (N : ℕ) (from : ParserState) (b : Knows N from) whe
 
   outside_tick_read : Good (WordRead N from) (outside_tick_at from)
   outside_tick_read = good_then (SpelledRead from) (WordRead N from) (spelled_at from) _ (spelled_read from)
-      (λ named s. ticked_on named s (ticked_in named.at.entries named.name) (ticked_is N named.at.entries named.name (s.passed.keeps.knows N b).others))
+      (λ named s. ticked_on named s (ticked_in named.at.words named.at.entries named.name) (ticked_is N named.at.words named.at.entries named.name (s.passed.keeps.knows N b).others))
 
   -- CODE-CELLS, where nothing weighs yet
   split_on : (due : Bool) (n : ℕ) (s : Host) (fits : Bool) → (is_true : due && nat_le 2048 n && nat_le n 8000 ≡ fits) → AreCells s.stack → s.tokens ≡ from.host.tokens → (due ≡ true → from.weight ≡ 0) →
@@ -241,6 +246,7 @@ module _ (laws : HostLaws) (N : ℕ) (from : ParserState) (b : Knows N from) whe
       let even : 2 * n % 2 ≡ 0 = omega arith in
       record {
         definitions = refl;
+        words = refl;
         nest = refl;
         entries = omega arith;
         few = λ h. h;
@@ -270,7 +276,7 @@ module _ (laws : HostLaws) (N : ℕ) (from : ParserState) (b : Knows N from) whe
 
 module _ (laws : HostLaws) (source : Source) (s : SourceRead 0 source) where
   abbrev pub Resumes : Source → Type 0
-  Resumes next = SourceRead 0 next × (length next.at.rest ≤ length source.at.rest)
+  Resumes next = SourceRead 0 next × (length next.at.rest ≤ length source.at.rest) × (next.at.words ≡ source.at.words)
 
   -- what is no number is followed by more
   not_number : (b : Before) (sense : OutsideSense) (w : ℕ) → is_number sense ≡ false → IsEarly (before_next b sense) w
@@ -280,12 +286,12 @@ module _ (laws : HostLaws) (source : Source) (s : SourceRead 0 source) where
 
   resumed_read : (sense : OutsideSense) (o : ParseResult ParserState) → is_number sense ≡ false → Good (WordRead (length source.bodies) source.at) o → Good Resumes (o >>= resumed source sense)
   resumed_read sense o e h = good_then (WordRead (length source.bodies) source.at) Resumes o _ h
-      (λ at w. (word_more source at (before_next source.before sense) s w (not_number source.before sense at.weight e), w.left))
+      (λ at w. (word_more source at (before_next source.before sense) s w (not_number source.before sense at.weight e), w.left, w.words))
 
   acts_on : (item : HostItem) → Good Resumes (acted_at item source.at >>= resumed source (Acts item))
   acts_on item =
       good_then (λ at. WordRead (length source.bodies) source.at at × (at.weight ≡ source.at.weight)) Resumes (acted_at item source.at) _ (acts_read laws (length source.bodies) source.at s.knows item)
-      (λ at w. (word_more source at (before_next source.before (Acts item)) s w.0 (acts_early source.before (is_number (Acts item)) source.at.weight at.weight w.1 s.early), w.0.left))
+      (λ at w. (word_more source at (before_next source.before (Acts item)) s w.0 (acts_early source.before (is_number (Acts item)) source.at.weight at.weight w.1 s.early), w.0.left, w.0.words))
     where
       acts_early : (b : Before) (t : Bool) (w v : ℕ) → v ≡ w → IsEarly b w → IsEarly (before_by b t) v
       acts_early before.Nothing true w v e h = e ∙ h
@@ -324,7 +330,7 @@ pub record OutsideRead (from : ParserState) (outside : OutsideToken) : Type 0 wh
 
 pub outside_read : (from : ParserState) (reading : Reading) → Passes from.count (length from.rest) reading → Good (OutsideRead from) (outside_of from reading)
 outside_read from (NoMore k) h = record {
-  goes = record { entries = refl; definitions = refl; nest = refl; weight = refl; count = omega (arith, h); left = omega arith };
+  goes = record { entries = refl; definitions = refl; words = refl; nest = refl; weight = refl; count = omega (arith, h); left = omega arith };
   keeps = reads_on from [] k;
   passed = λ sense e. absurd cc;
 }

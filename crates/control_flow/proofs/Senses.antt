@@ -1,20 +1,21 @@
 -- What a token stands for, and what holds of it.
-use Rattle.std.proofs.Common.{◌≡◌, ℕ, ◌<◌, ◌≤◌, nat_le, ◌==◌, Bool, true, false, ◌&&◌, List, [], ◌∷◌, ◌++◌, length, Option, Some, None, refl, ap, subst, arith, leb-true}
+use Rattle.std.proofs.Common.{◌≡◌, ℕ, ◌<◌, ◌≤◌, nat_le, ◌==◌, Bool, true, false, ◌&&◌, List, [], ◌∷◌, ◌++◌, length, Option, Some, None, refl, ap, sym, subst, arith, leb-true}
 use Rattle.std.specs.Prelude.{slice_index_or, Result, Ok, Err}
 use Rattle.std.specs.List.{list_all}
 use Rattle.std.proofs.lemmas.Bool.{eqb-false, and_parts, and_from, lt-ltb}
+use Rattle.word_table.specs.declared.word.Vocabulary.{Vocabulary}
 use Rattle.word_table.specs.declared.word.Word.{Word}
-use Rattle.word_table.specs.declared.word.Word.TheVariants.{ToR, RFrom, RFetch, Index, OuterIndex, Unloop, Create}
+use Rattle.word_table.specs.declared.word.Word.TheVariants.{ToR, RFrom, RFetch, Index, OuterIndex, Unloop, Create, Go}
 use Rattle.word_table.specs.declared.word.Class.{Class}
 use Rattle.word_table.specs.declared.word.Class.TheVariants as class
 use Rattle.word_table.specs.Table.{entry_of}
-use Rattle.word_table.specs.Names.{word_named}
+use Rattle.word_table.specs.Names.{word_in, is_go}
 use Rattle.forth_reader.specs.Bytes.{is_graphic}
 use Rattle.forth_reader.specs.declared.number.NumberRead.{NumberRead}
 use Rattle.forth_reader.specs.declared.number.NumberRead.TheVariants as number
 use Rattle.forth_reader.specs.Number.{is_digit, digits_value, signed_cell, digits_read, signed_read, based_read, prefix_base, unprefixed_read, number_read}
 use Rattle.forth_program.specs.Tree.{Plain}
-use Rattle.forth_program.specs.Form.{is_code_class, may_be_token}
+use Rattle.forth_program.specs.Form.{is_code_class, may_be_token, is_not_go}
 use Rattle.dictionary_core.specs.Pairs.{Pair, newest_value}
 use Rattle.dictionary_core.specs.Buckets.{is_same_name}
 use Rattle.host_state.specs.declared.entry.Entry.{Entry}
@@ -165,13 +166,13 @@ module _ (N : ℕ) where
   token_is base token (Some word) = class_is ((entry_of word).class) word refl
   token_is base token None = number_is base token
 
-  entry_on : (entries : List (Pair Entry)) (base : ℕ) (token : List ℕ) (o : Option Entry) → newest_value entries token ≡ o → AllBelow N entries →
-      IsSense N (elim o as (λ o. Sense) [ Some entry ↦ known_sense entry.known | None ↦ sense_by base token (word_named token) ])
-  entry_on entries base token (Some entry) e h = known_is entry.known (newest_below N entries token entry h e)
-  entry_on entries base token None e h = token_is base token (word_named token)
+  entry_on : (words : Vocabulary) (entries : List (Pair Entry)) (base : ℕ) (token : List ℕ) (o : Option Entry) → newest_value entries token ≡ o → AllBelow N entries →
+      IsSense N (elim o as (λ o. Sense) [ Some entry ↦ known_sense entry.known | None ↦ sense_by base token (word_in words token) ])
+  entry_on words entries base token (Some entry) e h = known_is entry.known (newest_below N entries token entry h e)
+  entry_on words entries base token None e h = token_is base token (word_in words token)
 
-  pub sense_is : (entries : List (Pair Entry)) (base : ℕ) (token : List ℕ) → AllBelow N entries → IsSense N (sense_in entries base token)
-  sense_is entries base token h = entry_on entries base token (newest_value entries token) refl h
+  pub sense_is : (words : Vocabulary) (entries : List (Pair Entry)) (base : ℕ) (token : List ℕ) → AllBelow N entries → IsSense N (sense_in words entries base token)
+  sense_is words entries base token h = entry_on words entries base token (newest_value entries token) refl h
 
   -- ---- names that are ticked
 
@@ -197,10 +198,71 @@ module _ (N : ℕ) where
   word_token (Some word) = word_on word (may_be_token (Plain word)) refl
   word_token None = tt
 
-  name_on : (entries : List (Pair Entry)) (name : List ℕ) (o : Option Entry) → newest_value entries name ≡ o → AllBelow N entries →
-      IsTicked N (elim o as (λ o. Result Ticked SourceCause) [ Some entry ↦ known_ticked entry entry.known | None ↦ word_ticked (word_named name) ])
-  name_on entries name (Some entry) e h = entry_token entry entry.known (newest_below N entries name entry h e)
-  name_on entries name None e h = word_token (word_named name)
+  name_on : (words : Vocabulary) (entries : List (Pair Entry)) (name : List ℕ) (o : Option Entry) → newest_value entries name ≡ o → AllBelow N entries →
+      IsTicked N (elim o as (λ o. Result Ticked SourceCause) [ Some entry ↦ known_ticked entry entry.known | None ↦ word_ticked (word_in words name) ])
+  name_on words entries name (Some entry) e h = entry_token entry entry.known (newest_below N entries name entry h e)
+  name_on words entries name None e h = word_token (word_in words name)
 
-  pub ticked_is : (entries : List (Pair Entry)) (name : List ℕ) → AllBelow N entries → IsTicked N (ticked_in entries name)
-  ticked_is entries name h = name_on entries name (newest_value entries name) refl h
+  pub ticked_is : (words : Vocabulary) (entries : List (Pair Entry)) (name : List ℕ) → AllBelow N entries → IsTicked N (ticked_in words entries name)
+  ticked_is words entries name h = name_on words entries name (newest_value entries name) refl h
+
+-- ---- words that are not GO
+
+-- no word of a vocabulary is GO
+abbrev pub LacksGo : Vocabulary → Type 0
+LacksGo words = (text : List ℕ) (word : Word) → word_in words text ≡ Some word → is_go word ≡ false
+
+pub still_lacks : {from at : Vocabulary} → at ≡ from → LacksGo from → LacksGo at
+still_lacks e lacks = subst LacksGo (sym e) lacks
+
+-- a plain word is not GO
+abbrev pub IsNotGo : Sense → Type 0
+IsNotGo (sense.Plain word) = is_go word ≡ false
+IsNotGo s = Unit {0}
+
+pub plain_not_go : (word : Word) → is_go word ≡ false → is_not_go (Plain word) ≡ true
+plain_not_go Go e = absurd cc
+plain_not_go word e = refl
+
+structure_not_go : (word : Word) → IsNotGo (structure_sense word)
+structure_not_go ToR = refl
+structure_not_go RFrom = refl
+structure_not_go RFetch = refl
+structure_not_go Index = refl
+structure_not_go OuterIndex = refl
+structure_not_go Unloop = refl
+structure_not_go word = tt
+
+acting_not_go : (word : Word) → IsNotGo (acting_sense word)
+acting_not_go Create = tt
+acting_not_go word = tt
+
+class_not_go : (kind : Class) (word : Word) → is_go word ≡ false → IsNotGo (class_sense kind word)
+class_not_go class.Inline word e = e
+class_not_go class.Library word e = e
+class_not_go class.Structure word e = structure_not_go word
+class_not_go class.Host word e = acting_not_go word
+
+number_not_go : (r : NumberRead) → IsNotGo (number_sense r)
+number_not_go (number.Value value) = tt
+number_not_go number.Range = tt
+number_not_go number.NotNumber = tt
+
+known_not_go : (k : Known) → IsNotGo (known_sense k)
+known_not_go (known.Definition definition) = tt
+known_not_go (known.Constant x) = tt
+known_not_go (known.Address address) = tt
+known_not_go (known.Child part address) = tt
+known_not_go (known.Defining number) = tt
+
+found_not_go : (base : ℕ) (token : List ℕ) (found : Option Word) → ((word : Word) → found ≡ Some word → is_go word ≡ false) → IsNotGo (sense_by base token found)
+found_not_go base token (Some word) lacks = class_not_go ((entry_of word).class) word (lacks word refl)
+found_not_go base token None lacks = number_not_go (number_read base token)
+
+entry_not_go : (words : Vocabulary) (base : ℕ) (token : List ℕ) (o : Option Entry) → LacksGo words →
+    IsNotGo (elim o as (λ o. Sense) [ Some entry ↦ known_sense entry.known | None ↦ sense_by base token (word_in words token) ])
+entry_not_go words base token (Some entry) lacks = known_not_go entry.known
+entry_not_go words base token None lacks = found_not_go base token (word_in words token) (lacks token)
+
+pub sense_not_go : (words : Vocabulary) (entries : List (Pair Entry)) (base : ℕ) (token : List ℕ) → LacksGo words → IsNotGo (sense_in words entries base token)
+sense_not_go words entries base token lacks = entry_not_go words base token (newest_value entries token) lacks

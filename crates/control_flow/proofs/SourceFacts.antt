@@ -4,7 +4,7 @@ use Rattle.std.specs.Prelude.{slice_get}
 use Rattle.std.specs.List.{list_all}
 use Rattle.word_table.specs.Names.{word_named}
 use Rattle.forth_program.specs.Tree.{Nodes}
-use Rattle.forth_program.specs.Form.{everywhere, has_id_below, calls_go_back, leaves_fit}
+use Rattle.forth_program.specs.Form.{everywhere, has_id_below, calls_go_back, leaves_fit, is_not_go}
 use Rattle.forth_program.specs.Weight.{weight as weight_of, bodies_weight}
 use Rattle.forth_program.specs.SourceTokens.{all_tokens}
 use Rattle.dictionary_core.specs.Pairs.{pair}
@@ -28,7 +28,7 @@ use Rattle.control_flow.specs.HostParts.{DefiningWord, HostPart, host_part_at}
 use Rattle.control_flow.specs.OutsideWords.{is_reserved_name, name_at, with_name}
 use Rattle.control_flow.specs.SourceText.{Source, with_body, ended_by, with_defining, part_by, defining_at, definition_at}
 use Rattle.control_flow.specs.SourceLaw.{is_read}
-use Rattle.control_flow.proofs.Senses.{IsKnown, below_more}
+use Rattle.control_flow.proofs.Senses.{IsKnown, below_more, LacksGo, still_lacks}
 use Rattle.control_flow.proofs.Moves.{Good, good_then, good_weaker, good_is, outermost}
 use Rattle.control_flow.proofs.HostFacts.{ticks, Knows, Bounded, knows_wider, Goes, Keeps, Passed}
 use Rattle.control_flow.proofs.HostPartFacts.{passed_then, PartRead, host_part_read, goes_does, keeps_does}
@@ -88,6 +88,7 @@ pub record SourceRead (due : ℕ) (source : Source) : Type 0 where
   pub items : list_all (everywhere (is_read (length source.bodies))) source.bodies ≡ true
   pub back : calls_go_back 0 source.bodies ≡ true
   pub leaves : list_all (leaves_fit false) source.bodies ≡ true
+  pub no_go : LacksGo source.at.words → list_all (everywhere is_not_go) source.bodies ≡ true
   pub weight : bodies_weight source.bodies + ticks source.at ≤ source.at.weight
   pub early : IsEarly source.before source.at.weight
   pub tokens : all_tokens source.bodies ≤ source.at.count
@@ -111,6 +112,7 @@ passes_on due source at so_far g k = record {
   items = so_far.items;
   back = so_far.back;
   leaves = so_far.leaves;
+  no_go = λ l. so_far.no_go (still_lacks (sym g.words) l);
   weight = omega (arith, so_far.weight, g.weight, same_ticks source.at at (k.ticked (length source.bodies) so_far.knows));
   early = early_as source.before source.at.weight at.weight g.weight so_far.early;
   tokens = omega (arith, so_far.tokens, g.count);
@@ -129,6 +131,7 @@ one_due source room s = record {
   items = s.items;
   back = s.back;
   leaves = s.leaves;
+  no_go = s.no_go;
   weight = s.weight;
   early = s.early;
   tokens = s.tokens;
@@ -150,6 +153,7 @@ name_more source name k s i =
       items = s.items;
       back = s.back;
       leaves = s.leaves;
+      no_go = s.no_go;
       weight = s.weight;
       early = tt;
       tokens = s.tokens;
@@ -213,6 +217,7 @@ module _ (source : Source) (so_far : SourceRead 0 source) (room : length source.
             (everywhere_wider (is_read (suc (0 + length source.bodies))) (has_id_below (suc (0 + length source.bodies))) (read_id (suc (0 + length source.bodies))) nodes
             (r.items (suc (0 + length source.bodies)) (known_there (suc (0 + length source.bodies)) (omega arith))).read);
         leaves = all_more (leaves_fit false) source.bodies nodes so_far.leaves (ap (λ l. leaves_fit (is_inside_do l) nodes) (sym so_far.nest) ∙ r.leaves);
+        no_go = λ l. all_more (everywhere is_not_go) source.bodies nodes (so_far.no_go (still_lacks (sym r.words) l)) (r.no_go (still_lacks (sym r.words) l));
         weight = omega (arith, weights_more source.bodies nodes, w, so_far.weight);
         early = tt;
         tokens = omega (arith, tokens_more source.bodies nodes, r.tokens, two);
@@ -222,8 +227,8 @@ module _ (source : Source) (so_far : SourceRead 0 source) (room : length source.
 -- ---- definitions
 
 -- what a definition or a word leaves behind a place
-abbrev pub Behind : ℕ → Source → Type 0
-Behind left next = SourceRead 0 next × (length next.at.rest ≤ left)
+abbrev pub Behind : ParserState → Source → Type 0
+Behind from next = SourceRead 0 next × (length next.at.rest ≤ length from.rest) × (next.at.words ≡ from.words)
 
 module _ (keep : HostWordsKeep) (source : Source) (so_far : SourceRead 0 source) (named : Named) (q : NamedRead source.at named) (one : all_tokens source.bodies + 1 ≤ source.at.count) where
   abbrev pub there : Source
@@ -232,13 +237,14 @@ module _ (keep : HostWordsKeep) (source : Source) (so_far : SourceRead 0 source)
   read_there : SourceRead 0 there
   read_there = passes_on 0 source named.at so_far q.passed.goes q.passed.keeps
 
-  ended_on : (nodes : Nodes) (e : Ending) (end : ParserState) → ItemsRead named.at (record { nodes = nodes; ending = e; at = end }) → Good (Behind (length source.at.rest)) (ended_by source named.name nodes end e)
+  ended_on : (nodes : Nodes) (e : Ending) (end : ParserState) → ItemsRead named.at (record { nodes = nodes; ending = e; at = end }) → Good (Behind source.at) (ended_by source named.name nodes end e)
   ended_on nodes ending.Semicolon end r =
       let kept = record (with_body source named.name nodes end) { before = before.More } in
       let more = body_more there read_there q.room (omega (arith, one, q.passed.count)) named.name nodes end r in (
         name_more kept named.name (known.Definition end.definitions) more
             (omega (arith, length-append source.bodies (nodes ∷ []), r.definitions, read_there.counted)),
         omega (arith, r.left, q.passed.left),
+        r.words ∙ q.passed.goes.words,
       )
   ended_on nodes e end r = tt
 
@@ -257,6 +263,7 @@ module _ (keep : HostWordsKeep) (source : Source) (so_far : SourceRead 0 source)
         items = named_too.items;
         back = named_too.back;
         leaves = named_too.leaves;
+        no_go = named_too.no_go;
         weight = named_too.weight;
         early = tt;
         tokens = named_too.tokens;
@@ -269,46 +276,48 @@ module _ (keep : HostWordsKeep) (source : Source) (so_far : SourceRead 0 source)
     read_behind : SourceRead 0 behind
     read_behind = passes_on 0 there (record part.at { does = true }) read_there (goes_does named.at part.at true p.goes) (keeps_does named.at part.at true p.keeps)
 
-    part_on : (nodes : Nodes) (e : Ending) (end : ParserState) → ItemsRead behind.at (record { nodes = nodes; ending = e; at = end }) → Good (Behind (length source.at.rest)) (part_by source named.name part.items nodes end e)
+    part_on : (nodes : Nodes) (e : Ending) (end : ParserState) → ItemsRead behind.at (record { nodes = nodes; ending = e; at = end }) → Good (Behind source.at) (part_by source named.name part.items nodes end e)
     part_on nodes ending.Semicolon end r =
         let room : length part.at.entries < 512 = omega (arith, ap length p.goes.entries, q.room) in
         let two : all_tokens source.bodies + 2 ≤ part.at.count = omega (arith, one, q.passed.count, p.goes.count) in (
           defining_more (record (with_body source named.name nodes end) { before = before.More }) part.items (Some end.definitions) (body_more behind read_behind room two named.name nodes end r)
               (omega (arith, length-append source.bodies (nodes ∷ []), r.definitions, read_behind.counted)),
           omega (arith, r.left, p.goes.left, q.passed.left),
+          r.words ∙ p.goes.words ∙ q.passed.goes.words,
         )
     part_on nodes e end r = tt
 
     does_on : (n : ℕ) (does : Bool) → length part.at.rest < n →
-        Good (Behind (length source.at.rest)) (elim does [
+        Good (Behind source.at) (elim does [
           | true ↦ items_at n (record part.at { does = true }) >>= λ many. part_by source named.name part.items many.nodes many.at many.ending
           | false ↦ Fine (with_defining (placed source part.at) named.name part.items None)
         ])
     does_on n true h =
-        good_then (ItemsRead behind.at) (Behind (length source.at.rest)) (items_at n behind.at) _ (items_read keep n behind.at h)
+        good_then (ItemsRead behind.at) (Behind source.at) (items_at n behind.at) _ (items_read keep n behind.at h)
         (λ many r. part_on many.nodes many.ending many.at r)
     does_on n false h = (
       defining_more (placed source part.at) part.items None
           (one_due (placed source part.at) (omega (arith, ap length p.goes.entries, q.room)) (passes_on 0 there part.at read_there p.goes p.keeps)) tt,
       omega (arith, p.goes.left, q.passed.left),
+      p.goes.words ∙ q.passed.goes.words,
     )
 
   create_on : (n : ℕ) (seen : ReadToken) (create : Bool) → TokenRead named.at seen → length named.at.rest < n →
-      Good (Behind (length source.at.rest)) (elim create [
+      Good (Behind source.at) (elim create [
         | true ↦ defining_at n source named.name seen.at
         | false ↦ items_by (items_at n) n seen.at seen.sense >>= λ many. ended_by source named.name many.nodes many.at many.ending
       ])
   create_on n seen true t h =
-      good_then (PartRead named.at) (Behind (length source.at.rest)) (host_part_at n seen.at) _
+      good_then (PartRead named.at) (Behind source.at) (host_part_at n seen.at) _
       (good_weaker (PartRead seen.at) (PartRead named.at) (λ part p. passed_then named.at seen.at part.at t.passed p) (host_part_at n seen.at) (host_part_read keep n seen.at (omega (arith, t.passed.left, h))))
       (λ part p. does_on part p n part.does (omega (arith, p.left, h)))
   create_on n seen false t h =
-      good_then (ItemsRead named.at) (Behind (length source.at.rest)) (items_by (items_at n) n seen.at seen.sense) _ (items_from_read keep n named.at seen t (omega (arith, t.passed.left, h)))
+      good_then (ItemsRead named.at) (Behind source.at) (items_by (items_at n) n seen.at seen.sense) _ (items_from_read keep n named.at seen t (omega (arith, t.passed.left, h)))
       (λ many r. ended_on many.nodes many.ending many.at r)
 
 pub definition_read : (keep : HostWordsKeep) (source : Source) → SourceRead 0 source → all_tokens source.bodies + 1 ≤ source.at.count → (n : ℕ) → length source.at.rest < n →
-    Good (Behind (length source.at.rest)) (definition_at n source source.at)
+    Good (Behind source.at) (definition_at n source source.at)
 definition_read keep source so_far one n h =
-    good_then (NamedRead source.at) (Behind (length source.at.rest)) (name_at source.at) _ (named_read source.at)
-    (λ named q. good_then (TokenRead named.at) (Behind (length source.at.rest)) (token_at named.at) _ (token_read named.at)
+    good_then (NamedRead source.at) (Behind source.at) (name_at source.at) _ (named_read source.at)
+    (λ named q. good_then (TokenRead named.at) (Behind source.at) (token_at named.at) _ (token_read named.at)
     (λ seen t. create_on keep source so_far named q one n seen (is_create seen.sense) t (omega (arith, q.passed.left, h))))

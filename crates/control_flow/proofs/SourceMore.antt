@@ -1,6 +1,8 @@
 -- A source that is read up to the end of a text is read on in a piece on the next line.
 use Rattle.std.proofs.Common.{◌≡◌, ℕ, zero, suc, ◌+◌, ◌-◌, ◌<◌, ◌≤◌, nat_lt, Bool, true, false, List, [], ◌∷◌, ◌++◌, length, Option, Some, None, refl, sym, ap, ◌∙◌, subst, arith, length-append}
 use Rattle.std.specs.Prelude.{Result, Ok, Err, slice_get}
+use Rattle.word_table.specs.declared.word.Vocabulary.{Vocabulary}
+use Rattle.word_table.specs.declared.word.Vocabulary.TheVariants as vocabulary
 use Rattle.word_table.specs.Names.{word_named}
 use Rattle.forth_program.specs.Tree.{Nodes}
 use Rattle.forth_program.specs.Program.{SourceProgram}
@@ -30,8 +32,8 @@ use Rattle.control_flow.specs.HostParts.{DefiningWord, HostPart, may_be_part, wi
 use Rattle.control_flow.specs.OutsideSense.{outside_sense_in}
 use Rattle.control_flow.specs.OutsideWords.{is_reserved_name, name_at, named_as, constant_at, variable_at, create_at, child_of, token_put, outside_ticked_as, outside_tick_at, outside_char_at, code_cells_at}
 use Rattle.control_flow.specs.SourceText.{is_due, Source, with_defining, ended_by, part_by, defining_at, definition_at, OutsideToken, outside_of, outside_at, child_by, resumed, outside_by}
-use Rattle.control_flow.specs.SourceText.{program_of_source, source_by, source_at, source_start, program_of_text}
-use Rattle.control_flow.specs.Pieces.{read_by, read_at, source_of_text, is_no_main, with_piece}
+use Rattle.control_flow.specs.SourceText.{program_of_source, source_by, source_at, source_start, program_in}
+use Rattle.control_flow.specs.Pieces.{read_by, read_at, source_in, source_of_text, is_no_main, with_piece}
 use Rattle.control_flow.proofs.ReadingOn.{GoesOn, next_goes}
 use Rattle.control_flow.proofs.MoreBehind.{Extends, extends_then, more_at, Within, PlaceMore, token_more, more_host, host_more, NamedMore, spelled_more, weighed_more, hosted_more}
 use Rattle.control_flow.proofs.MoreBehind.{acted_more, quoted_more, items_more, items_by_more, read_cause, IsOther, found_other}
@@ -60,8 +62,8 @@ unfolding source_at read_at
 program_at_end zero source = refl
 program_at_end (suc n) source = outside_ends n (λ next. program_at_end n next) source (outside_at source.at)
 
-pub program_of_end : (text : List ℕ) → program_of_text text ≡ ended (source_of_text text)
-program_of_end text = program_at_end (suc (length text)) (source_start text)
+pub program_of_end : (words : Vocabulary) (text : List ℕ) → program_in words text ≡ ended (source_in words text)
+program_of_end words text = program_at_end (suc (length text)) (source_start words text)
 
 module _ (piece : List ℕ) (bound : ℕ) where
   abbrev more : ParserState → ParserState
@@ -198,7 +200,7 @@ module _ (piece : List ℕ) (bound : ℕ) where
 
   tick_more : (at : ParserState) → InText at → Place (outside_tick_at at) (outside_tick_at (more at))
   tick_more at w = extends_then more_named (λ named. InText named.at) more InText (spelled_at at) (spelled_at (more at)) _ _ (spelled_more piece bound at w)
-      (λ named v. ticked_more at.count named (ticked_in named.at.entries named.name) (found_other (newest_value named.at.entries named.name) named.name) v)
+      (λ named v. ticked_more at.count named (ticked_in named.at.words named.at.entries named.name) (found_other named.at.words (newest_value named.at.entries named.name) named.name) v)
 
   char_more : (at : ParserState) → InText at → Place (outside_char_at at) (outside_char_at (more at))
   char_more at w = extends_then more_named (λ named. InText named.at) more InText (spelled_at at) (spelled_at (more at)) _ _ (spelled_more piece bound at w)
@@ -249,7 +251,7 @@ module _ (piece : List ℕ) (bound : ℕ) where
     outside_on (Refuses k c) s e = read_cause c
     outside_on (Reads token k rest) s e =
         let place : ParserState = record source.at { rest = rest; count = k } in
-        let sense : OutsideSense = outside_sense_in source.at.entries (base_at source.at) token in
+        let sense : OutsideSense = outside_sense_in source.at.words source.at.entries (base_at source.at) token in
         subst (λ r. ReadsOn left (outside_of source.at (Reads token k rest) >>= read_by (read_at n) n source) (outside_of (more source.at) r >>= read_by (read_at m) m (more_source source))) (sym e.0)
         (next_on left (outside_by n source place sense) (outside_by m (more_source source) (more place) sense) (read_at n) (read_at m) (outside_more n m h source place sense e.1) goes)
 
@@ -279,7 +281,7 @@ pub record ReadOn (text piece : List ℕ) (last : Source) : Type 0 where
 pub read_on : (text piece : List ℕ) (last : Source) → source_of_text text ≡ Fine last → ReadOn text piece last
 read_on text piece last e =
     let longer : length (text ++ 10 ∷ piece) ≡ length text + suc (length piece) = length-append text (10 ∷ piece) in
-    let goes = reads_on piece (length text) (suc (length piece)) (suc (length text)) (suc (length (text ++ 10 ∷ piece))) (omega (arith, longer)) (source_start text) (omega arith) in
+    let goes = reads_on piece (length text) (suc (length piece)) (suc (length text)) (suc (length (text ++ 10 ∷ piece))) (omega (arith, longer)) (source_start vocabulary.Source text) (omega arith) in
     let on = subst (λ o. ReadsOn piece (length text) (suc (length piece)) o (source_of_text (with_piece text piece))) e goes in
     record {
       fuel = on.0;
@@ -292,8 +294,8 @@ read_on text piece last e =
 -- no text is refused before its end for want of MAIN
 pub refused_before : (text : List ℕ) (k : ℕ) (c : _) → source_of_text text ≡ Refused k c → is_no_main c ≡ false
 refused_before text k c e =
-    subst (λ o. ReadsOn [] (length text) 0 o (read_at (suc (length text)) (more_source [] (length text) (source_start text)))) e
-    (reads_on [] (length text) 0 (suc (length text)) (suc (length text)) (omega arith) (source_start text) (omega arith))
+    subst (λ o. ReadsOn [] (length text) 0 o (read_at (suc (length text)) (more_source [] (length text) (source_start vocabulary.Source text)))) e
+    (reads_on [] (length text) 0 (suc (length text)) (suc (length text)) (omega arith) (source_start vocabulary.Source text) (omega arith))
 
 -- nothing is left of a text that is read to its end
 pub nothing_left : (n : ℕ) (source last : Source) → read_at n source ≡ Fine last → last.at.rest ≡ []

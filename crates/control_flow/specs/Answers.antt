@@ -22,6 +22,7 @@ parser_state c = record {
   definitions = c.definitions;
   host = c.host;
   does = c.does;
+  words = c.words;
 }
 
 -- a parser that can go on: its reader has refused nothing, the weights are within the limit of the last data start, and HERE is in

@@ -2,7 +2,8 @@
 use Rattle.std.specs.Prelude.{ℕ, List, Option, Some, None}
 use Rattle.word_table.specs.declared.word.Word.{Word}
 use Rattle.word_table.specs.declared.word.Word.TheVariants as word
-use Rattle.word_table.specs.Names.{word_named}
+use Rattle.word_table.specs.declared.word.Vocabulary.{Vocabulary}
+use Rattle.word_table.specs.Names.{word_in}
 use Rattle.forth_reader.specs.declared.number.NumberRead.{NumberRead}
 use Rattle.forth_reader.specs.declared.number.NumberRead.TheVariants as number
 use Rattle.forth_reader.specs.Number.{number_read}
@@ -88,6 +89,6 @@ abbrev pub host_sense_by : ℕ → List ℕ → Option Word → HostSense
 host_sense_by base token (Some w) = word_host_sense w
 host_sense_by base token None = number_host_sense (number_read base token)
 
--- a name that is defined hides a word
-abbrev pub host_sense_in : List (Pair Entry) → ℕ → List ℕ → HostSense
-host_sense_in entries base token = elim (newest_value entries token) [ Some entry ↦ known_host_sense entry.known | None ↦ host_sense_by base token (word_named token) ]
+-- in a vocabulary; a name that is defined hides a word
+abbrev pub host_sense_in : Vocabulary → List (Pair Entry) → ℕ → List ℕ → HostSense
+host_sense_in words entries base token = elim (newest_value entries token) [ Some entry ↦ known_host_sense entry.known | None ↦ host_sense_by base token (word_in words token) ]

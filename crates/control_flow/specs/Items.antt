@@ -167,7 +167,7 @@ ticked_as number named (Ok one) = hosted_as number named.at (tick one named.at.h
 
 -- ['] reads a name, and is its execution token
 abbrev pub tick_at : ParserState → ParseResult One
-tick_at at = spelled_at at >>= λ named. ticked_as at.count named (ticked_in named.at.entries named.name)
+tick_at at = spelled_at at >>= λ named. ticked_as at.count named (ticked_in named.at.words named.at.entries named.name)
 
 -- LITERAL takes a cell from the host stack
 abbrev pub literal_at : ParserState → ParseResult One

@@ -2,7 +2,8 @@
 use Rattle.std.specs.Prelude.{ℕ, Bool, true, false, List, Option, Some, None}
 use Rattle.word_table.specs.declared.word.Word.{Word}
 use Rattle.word_table.specs.declared.word.Word.TheVariants as word
-use Rattle.word_table.specs.Names.{word_named}
+use Rattle.word_table.specs.declared.word.Vocabulary.{Vocabulary}
+use Rattle.word_table.specs.Names.{word_in}
 use Rattle.forth_reader.specs.declared.number.NumberRead.{NumberRead}
 use Rattle.forth_reader.specs.declared.number.NumberRead.TheVariants as number
 use Rattle.forth_reader.specs.Number.{number_read}
@@ -50,9 +51,9 @@ abbrev pub outside_sense_by : ℕ → List ℕ → Option Word → OutsideSense
 outside_sense_by base token (Some w) = word_outside_sense w
 outside_sense_by base token None = number_outside_sense (number_read base token)
 
--- a name that is defined hides a word
-abbrev pub outside_sense_in : List (Pair Entry) → ℕ → List ℕ → OutsideSense
-outside_sense_in entries base token = elim (newest_value entries token) [ Some entry ↦ known_outside_sense entry.known | None ↦ outside_sense_by base token (word_named token) ]
+-- in a vocabulary; a name that is defined hides a word
+abbrev pub outside_sense_in : Vocabulary → List (Pair Entry) → ℕ → List ℕ → OutsideSense
+outside_sense_in words entries base token = elim (newest_value entries token) [ Some entry ↦ known_outside_sense entry.known | None ↦ outside_sense_by base token (word_in words token) ]
 
 -- numbers, of which one may stand before CODE-CELLS
 abbrev pub is_number : OutsideSense → Bool

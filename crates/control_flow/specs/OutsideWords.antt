@@ -81,7 +81,7 @@ outside_ticked_as number named (Err c) = Refused named.at.count c
 outside_ticked_as number named (Ok one) = hosted_as number named.at (token_put one named.at.host) (λ token. weighed_as number (tick_weight one token.1 - 2))
 
 abbrev pub outside_tick_at : ParserState → ParseResult ParserState
-outside_tick_at at = spelled_at at >>= λ named. outside_ticked_as at.count named (ticked_in named.at.entries named.name)
+outside_tick_at at = spelled_at at >>= λ named. outside_ticked_as at.count named (ticked_in named.at.words named.at.entries named.name)
 
 -- CHAR reads a name, and puts its first byte on the host stack
 abbrev pub outside_char_at : ParserState → ParseResult ParserState

@@ -1,5 +1,6 @@
 -- Places of a source text, and what reading from one gives.
 use Rattle.std.specs.Prelude.{ℕ, ◌+◌, ◌-◌, ◌/◌, nat_le, Bool, true, false, List}
+use Rattle.word_table.specs.declared.word.Vocabulary.{Vocabulary}
 use Rattle.forth_reader.specs.declared.refusal.ReadCause.{ReadCause}
 use Rattle.forth_reader.specs.declared.refusal.ReadCause.TheVariants as read
 use Rattle.dictionary_core.specs.Pairs.{Pair}
@@ -27,6 +28,8 @@ pub record ParserState : Type 0 where
   pub host : Host
   -- whether the part behind a DOES> is read, in which RECURSE cannot stand
   pub does : Bool
+  -- the words that the text may use
+  pub words : Vocabulary
 
 -- a value, or the first refused token with its cause.
 -- Endless stands for a text that is left when the fuel is spent; with more fuel than bytes it never comes.

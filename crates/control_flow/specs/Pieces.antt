@@ -1,5 +1,7 @@
 -- A source text that comes in pieces: what a text has come to at its end, and which texts can be read on.
 use Rattle.std.specs.Prelude.{◌≡◌, ℕ, zero, suc, Bool, true, false, List, ◌∷◌, ◌++◌, length, Some, None, ⊤}
+use Rattle.word_table.specs.declared.word.Vocabulary.{Vocabulary}
+use Rattle.word_table.specs.declared.word.Vocabulary.TheVariants as vocabulary
 use Rattle.forth_program.specs.Program.{SourceProgram}
 use Rattle.control_flow.specs.declared.refusal.SourceCause.{SourceCause}
 use Rattle.control_flow.specs.declared.refusal.SourceCause.TheVariants as cause
@@ -20,9 +22,12 @@ unfoldable pub read_at : ℕ → Source → ParseResult Source
 read_at zero source = Endless
 read_at (suc n) source = outside_at source.at >>= read_by (read_at n) n source
 
--- what a text has come to at its end, or its first refusal that is not for want of MAIN
+-- what a text in a vocabulary has come to at its end, or its first refusal that is not for want of MAIN
+abbrev pub source_in : Vocabulary → List ℕ → ParseResult Source
+source_in words text = read_at (suc (length text)) (source_start words text)
+
 abbrev pub source_of_text : List ℕ → ParseResult Source
-source_of_text text = read_at (suc (length text)) (source_start text)
+source_of_text text = source_in vocabulary.Source text
 
 abbrev pub is_no_main : SourceCause → Bool
 is_no_main cause.NoMain = true

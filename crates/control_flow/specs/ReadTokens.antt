@@ -21,7 +21,7 @@ pub record ReadToken : Type 0 where
 abbrev pub read_token_of : ParserState → Reading → ParseResult ReadToken
 read_token_of at (NoMore tokens) = Refused (tokens + 1) cause.OpenDefinition
 read_token_of at (Refuses number c) = Refused number (source_cause c)
-read_token_of at (Reads token number rest) = Fine (record { sense = sense_in at.entries (base_at at) token; at = record at { rest = rest; count = number } })
+read_token_of at (Reads token number rest) = Fine (record { sense = sense_in at.words at.entries (base_at at) token; at = record at { rest = rest; count = number } })
 
 -- the next token of a definition
 abbrev pub token_at : ParserState → ParseResult ReadToken
@@ -35,7 +35,7 @@ pub record HostToken : Type 0 where
 abbrev pub host_token_of : ParserState → Reading → ParseResult HostToken
 host_token_of at (NoMore tokens) = Refused (tokens + 1) cause.OpenDefinition
 host_token_of at (Refuses number c) = Refused number (source_cause c)
-host_token_of at (Reads token number rest) = Fine (record { sense = host_sense_in at.entries (base_at at) token; at = record at { rest = rest; count = number } })
+host_token_of at (Reads token number rest) = Fine (record { sense = host_sense_in at.words at.entries (base_at at) token; at = record at { rest = rest; count = number } })
 
 -- the next token in brackets
 abbrev pub host_token_at : ParserState → ParseResult HostToken

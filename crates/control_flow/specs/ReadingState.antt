@@ -26,6 +26,7 @@ pub record IsMark (mark : SourceMark) (source : ReadSource) : Type 0 where
   pub definitions : mark.definitions ≡ source.parser.definitions
   pub host : mark.host ≡ source.parser.host
   pub does : mark.does ≡ source.parser.does
+  pub words : mark.words ≡ source.parser.words
   pub names : mark.names ≡ length source.names.items
   pub bodies : mark.bodies ≡ length source.bodies.items
   pub defining : mark.defining ≡ length source.defining.items

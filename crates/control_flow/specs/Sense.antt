@@ -5,7 +5,8 @@ use Rattle.word_table.specs.declared.word.Word.TheVariants as word
 use Rattle.word_table.specs.declared.word.Class.{Class}
 use Rattle.word_table.specs.declared.word.Class.TheVariants as class
 use Rattle.word_table.specs.Table.{entry_of}
-use Rattle.word_table.specs.Names.{word_named}
+use Rattle.word_table.specs.declared.word.Vocabulary.{Vocabulary}
+use Rattle.word_table.specs.Names.{word_in}
 use Rattle.forth_reader.specs.declared.number.NumberRead.{NumberRead}
 use Rattle.forth_reader.specs.declared.number.NumberRead.TheVariants as number
 use Rattle.forth_reader.specs.Number.{number_read}
@@ -111,9 +112,9 @@ abbrev pub sense_by : ℕ → List ℕ → Option Word → Sense
 sense_by base token (Some word) = word_sense word
 sense_by base token None = number_sense (number_read base token)
 
--- a name that is defined hides a word
-abbrev pub sense_in : List (Pair Entry) → ℕ → List ℕ → Sense
-sense_in entries base token = elim (newest_value entries token) [ Some entry ↦ known_sense entry.known | None ↦ sense_by base token (word_named token) ]
+-- in a vocabulary; a name that is defined hides a word
+abbrev pub sense_in : Vocabulary → List (Pair Entry) → ℕ → List ℕ → Sense
+sense_in words entries base token = elim (newest_value entries token) [ Some entry ↦ known_sense entry.known | None ↦ sense_by base token (word_in words token) ]
 
 abbrev pub is_create : Sense → Bool
 is_create Creates = true

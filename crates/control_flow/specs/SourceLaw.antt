@@ -1,21 +1,22 @@
 -- What holds of each source text, and of the program of each.
 use Rattle.std.specs.Prelude.{◌≡◌, ℕ, ◌+◌, ◌-◌, ◌/◌, ◌<◌, ◌≤◌, nat_lt, Bool, true, false, ◌&&◌, List, length}
 use Rattle.std.specs.List.{All, list_all}
+use Rattle.word_table.specs.declared.word.Vocabulary.{Vocabulary}
 use Rattle.word_table.specs.declared.word.Word.{Word}
 use Rattle.word_table.specs.declared.word.Word.TheVariants.{ToR, RFrom, RFetch, Index, OuterIndex, Unloop}
 use Rattle.word_table.specs.Table.{entry_of}
 use Rattle.forth_program.specs.Tree.{Node, Nodes, Literal, Plain, Call, Child, Text}
-use Rattle.forth_program.specs.Form.{IsProgram, everywhere, calls_go_back, is_code_class, may_be_token}
+use Rattle.forth_program.specs.Form.{IsProgram, everywhere, calls_go_back, is_code_class, may_be_token, has_no_go}
 use Rattle.forth_program.specs.Weight.{bodies_weight}
 use Rattle.forth_program.specs.Program.{SourceProgram}
 use Rattle.forth_program.specs.SourceTokens.{all_tokens}
 use Rattle.control_flow.specs.ParseResult.{Fine, Endless}
 use Rattle.control_flow.specs.Ticks.{tokens_weight}
-use Rattle.control_flow.specs.SourceText.{program_of_text}
+use Rattle.control_flow.specs.SourceText.{program_in, program_of_text}
 
--- a text has a program or a first refusal
+-- a text has a program or a first refusal, in each vocabulary
 abbrev pub EachIsJudged : Type 0
-EachIsJudged = (text : List ℕ) → program_of_text text ≡ Endless → ⊥
+EachIsJudged = (words : Vocabulary) (text : List ℕ) → program_in words text ≡ Endless → ⊥
 
 -- inline and library words, and the six on return entries
 abbrev pub is_plain : Word → Bool
@@ -51,7 +52,7 @@ TestsWiden =
     (narrow wide : Node → Bool) → ((node : Node) → narrow node ≡ true → wide node ≡ true) →
     (bodies : List Nodes) → list_all (everywhere narrow) bodies ≡ true → list_all (everywhere wide) bodies ≡ true
 
--- what holds of the program of a text
+-- what holds of the program of a text, in each vocabulary
 pub record IsSource (program : SourceProgram) : Type 0 where
   pub form : IsProgram program
   pub few : length program.bodies ≤ 512
@@ -64,4 +65,8 @@ pub record IsSource (program : SourceProgram) : Type 0 where
   pub calls_back : calls_go_back 0 program.bodies ≡ true
 
 abbrev pub EachProgramIsSource : Type 0
-EachProgramIsSource = (text : List ℕ) (program : SourceProgram) → program_of_text text ≡ Fine program → IsSource program
+EachProgramIsSource = (words : Vocabulary) (text : List ℕ) (program : SourceProgram) → program_in words text ≡ Fine program → IsSource program
+
+-- no program of a source has GO
+abbrev pub SourcesHaveNoGo : Type 0
+SourcesHaveNoGo = (text : List ℕ) (program : SourceProgram) → program_of_text text ≡ Fine program → has_no_go program ≡ true

@@ -1,5 +1,7 @@
 -- The program of a source text: definitions, and what is done outside them.
 use Rattle.std.specs.Prelude.{ℕ, zero, suc, ◌+◌, List, [], ◌∷◌, ◌++◌, length, Bool, true, false, Option, Some, None, codes, slice_get}
+use Rattle.word_table.specs.declared.word.Vocabulary.{Vocabulary}
+use Rattle.word_table.specs.declared.word.Vocabulary.TheVariants as vocabulary
 use Rattle.forth_program.specs.Tree.{Nodes}
 use Rattle.forth_program.specs.Program.{SourceProgram}
 use Rattle.forth_reader.specs.Reading.{Reading, NoMore, Reads, Refuses, next_from}
@@ -114,7 +116,7 @@ pub record OutsideToken : Type 0 where
 abbrev pub outside_of : ParserState → Reading → ParseResult OutsideToken
 outside_of at (NoMore tokens) = Fine (record { sense = None; at = record at { rest = []; count = tokens } })
 outside_of at (Refuses number c) = Refused number (source_cause c)
-outside_of at (Reads token number rest) = Fine (record { sense = Some (outside_sense_in at.entries (base_at at) token); at = record at { rest = rest; count = number } })
+outside_of at (Reads token number rest) = Fine (record { sense = Some (outside_sense_in at.words at.entries (base_at at) token); at = record at { rest = rest; count = number } })
 
 abbrev pub outside_at : ParserState → ParseResult OutsideToken
 outside_at at = outside_of at (next_from at.count at.rest)
@@ -188,13 +190,17 @@ source_at (suc n) source = outside_at source.at >>= source_by (source_at n) n so
 abbrev pub first_host : Host
 first_host = record { stack = []; space = first_space 8192; tokens = [] }
 
--- a text at its start
-abbrev pub beginning : List ℕ → ParserState
-beginning text = record { rest = text; count = 0; weight = 0; nest = []; entries = []; definitions = 0; host = first_host; does = false }
+-- a text at its start, which may use the words of a vocabulary
+abbrev pub beginning : Vocabulary → List ℕ → ParserState
+beginning words text = record { rest = text; count = 0; weight = 0; nest = []; entries = []; definitions = 0; host = first_host; does = false; words = words }
 
-abbrev pub source_start : List ℕ → Source
-source_start text = record { at = beginning text; names = []; bodies = []; defining = []; before = before.Nothing }
+abbrev pub source_start : Vocabulary → List ℕ → Source
+source_start words text = record { at = beginning words text; names = []; bodies = []; defining = []; before = before.Nothing }
 
--- the program of a text, or its first refusal
+-- the program of a text in a vocabulary, or its first refusal
+abbrev pub program_in : Vocabulary → List ℕ → ParseResult SourceProgram
+program_in words text = source_at (suc (length text)) (source_start words text)
+
+-- the same of a source: only a kernel may use GO
 abbrev pub program_of_text : List ℕ → ParseResult SourceProgram
-program_of_text text = source_at (suc (length text)) (source_start text)
+program_of_text text = program_in vocabulary.Source text

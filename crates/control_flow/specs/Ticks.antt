@@ -1,7 +1,8 @@
 -- What a name stands for that is ticked, and what its execution token weighs.
 use Rattle.std.specs.Prelude.{ℕ, ◌+◌, Bool, true, false, List, [], ◌∷◌, map, Option, Some, None, Result, Ok, Err}
 use Rattle.word_table.specs.declared.word.Word.{Word}
-use Rattle.word_table.specs.Names.{word_named}
+use Rattle.word_table.specs.declared.word.Vocabulary.{Vocabulary}
+use Rattle.word_table.specs.Names.{word_in}
 use Rattle.forth_program.specs.Tree.{Node, Literal, Plain, Call, Child}
 use Rattle.forth_program.specs.Form.{may_be_token}
 use Rattle.forth_program.specs.Weight.{token_weight}
@@ -19,13 +20,13 @@ abbrev pub known_ticked : Entry → Known → Result Ticked SourceCause
 known_ticked entry (known.Defining number) = Err cause.NeedsName
 known_ticked entry k = Ok (ticked.Entry entry)
 
--- of the table, words of class inline and library have one, but EXECUTE has none
+-- of the table, words of class inline and library have one, but EXECUTE and GO have none
 abbrev pub word_ticked : Option Word → Result Ticked SourceCause
 word_ticked (Some word) = elim (may_be_token (Plain word)) [ true ↦ Ok (ticked.Word word) | false ↦ Err cause.NeedsName ]
 word_ticked None = Err cause.UnknownWord
 
-abbrev pub ticked_in : List (Pair Entry) → List ℕ → Result Ticked SourceCause
-ticked_in entries name = elim (newest_value entries name) [ Some entry ↦ known_ticked entry entry.known | None ↦ word_ticked (word_named name) ]
+abbrev pub ticked_in : Vocabulary → List (Pair Entry) → List ℕ → Result Ticked SourceCause
+ticked_in words entries name = elim (newest_value entries name) [ Some entry ↦ known_ticked entry entry.known | None ↦ word_ticked (word_in words name) ]
 
 -- what EXECUTE does with the token of a name; a defining word has none
 abbrev pub known_node : Known → Node

@@ -1,11 +1,11 @@
 // What tokens stand for where host words act.
 ghost use Rattle.std.specs.Prelude.{◌≡◌};
-ghost use Rattle.word_table.specs.Names.{word_named};
+ghost use Rattle.word_table.specs.Names.{word_in};
 ghost use Rattle.control_flow.specs.HostSense.{host_word, plain_host_sense, word_host_sense, number_host_sense, known_host_sense, host_sense_by};
 
 use forth_reader::{NumberRead, number_of};
 use host_state::{HostItem, HostWord, Known};
-use word_table::{Word, word_of};
+use word_table::{Vocabulary, Word, word_in};
 
 /// What a token stands for in brackets and in the host part of a defining word.
 #[derive(Clone, Copy)]
@@ -123,10 +123,10 @@ pub(crate) fn known_host_sense(known: Known) -> HostSense
 }
 
 /// What a token stands for in brackets that is no name of a definition.
-pub(crate) fn host_sense_of(token: &str, base: u16) -> HostSense
-    ensures { result ≡ host_sense_by base token.now (word_named token.now) }
+pub(crate) fn host_sense_of(words: Vocabulary, token: &str, base: u16) -> HostSense
+    ensures { result ≡ host_sense_by base token.now (word_in words token.now) }
 {
-    match word_of(token) {
+    match word_in(words, token) {
         Some(word) => word_host_sense(word),
         None => number_host_sense(number_of(token, base)),
     }

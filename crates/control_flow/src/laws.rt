@@ -1,7 +1,8 @@
 // What holds of all source texts.
-ghost use Rattle.control_flow.specs.SourceLaw.{EachIsJudged, EachProgramIsSource, TestsWiden};
+ghost use Rattle.control_flow.specs.SourceLaw.{EachIsJudged, EachProgramIsSource, SourcesHaveNoGo, TestsWiden};
 
 use host_state::host_words_keep;
+use word_table::each_is_found;
 
 /// Each text has a program or a first refusal: the definition never gives up.
 pub fn texts_are_judged()
@@ -13,11 +14,13 @@ pub fn texts_are_judged()
 /// The program of a text meets the condition of a program; its numbers are cells, its words are inline, of the library or on
 /// return entries, its calls lead to the definition in which they stand or to earlier ones, and its texts lie in data space; so do its
 /// execution tokens; the weights of both are within the limit, its source has a token for each of its parts, and its first data space
-/// is bytes.
+/// is bytes. All this holds of kernels too; the program of a source has no `GO`.
 pub fn programs_are_sources()
-    ensures { EachProgramIsSource }
+    ensures each { EachProgramIsSource }
+    ensures no_go { SourcesHaveNoGo }
 {
     host_words_keep();
+    each_is_found();
 }
 
 /// Where a test holds of every item, also in structures, each wider test does.

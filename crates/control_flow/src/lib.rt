@@ -29,4 +29,4 @@ pub use laws::{programs_are_sources, tests_widen, texts_are_judged};
 pub use nest::{Ending, Nest, Open};
 pub use pieces::Reading;
 pub use refusal::{SourceCause, SourceError, SourceRefusal};
-pub use source::read_program;
+pub use source::{read_kernel, read_program};

@@ -1,12 +1,12 @@
 // What tokens stand for outside definitions.
 ghost use Rattle.std.specs.Prelude.{◌≡◌};
-ghost use Rattle.word_table.specs.Names.{word_named};
+ghost use Rattle.word_table.specs.Names.{word_in};
 ghost use Rattle.control_flow.specs.OutsideSense.{plain_outside_sense, word_outside_sense, number_outside_sense, known_outside_sense, outside_sense_by, is_number};
 
 use crate::host_sense::host_word;
 use forth_reader::{NumberRead, number_of};
 use host_state::{HostItem, HostWord, Known};
-use word_table::{Word, word_of};
+use word_table::{Vocabulary, Word, word_in};
 
 /// What a token stands for outside definitions.
 #[derive(Clone, Copy)]
@@ -90,10 +90,10 @@ pub(crate) fn known_outside_sense(known: Known) -> OutsideSense
 }
 
 /// What a token stands for outside definitions that is no name of a definition.
-pub(crate) fn outside_sense_of(token: &str, base: u16) -> OutsideSense
-    ensures { result ≡ outside_sense_by base token.now (word_named token.now) }
+pub(crate) fn outside_sense_of(words: Vocabulary, token: &str, base: u16) -> OutsideSense
+    ensures { result ≡ outside_sense_by base token.now (word_in words token.now) }
 {
-    match word_of(token) {
+    match word_in(words, token) {
         Some(word) => word_outside_sense(word),
         None => number_outside_sense(number_of(token, base)),
     }

@@ -19,7 +19,7 @@ use crate::refusal::{SourceCause, SourceError, refused, source_cause};
 use crate::sense::{Sense, is_reserved_name, known_sense, sense_of};
 use dictionary_core::Dictionary;
 use host_state::{Entry, HostState};
-use word_table::entry;
+use word_table::{Vocabulary, entry};
 
 /// A place in a source, and what the source has come to.
 #[derive(Drop)]
@@ -37,6 +37,8 @@ pub(crate) struct Parser<'a> {
     pub(crate) host: HostState,
     /// Whether the part behind a `DOES>` is read.
     pub(crate) does: bool,
+    /// The words that the text may use.
+    pub(crate) words: Vocabulary,
 }
 
 impl<'a> Parser<'a> {
@@ -99,7 +101,7 @@ impl<'a> Parser<'a> {
 
     /// What a token stands for: first a name that is defined.
     fn sense(&mut self, token: &str) -> Sense
-        ensures value { result ≡ sense_in self.old.dictionary.pairs (base_at (parser_state self.old)) token.now }
+        ensures value { result ≡ sense_in self.old.words self.old.dictionary.pairs (base_at (parser_state self.old)) token.now }
         ensures same { parser_state self.new ≡ parser_state self.old }
         ensures entries { self.new.dictionary.pairs ≡ self.old.dictionary.pairs }
         ensures reader { self.new.reader ≡ self.old.reader }
@@ -107,13 +109,13 @@ impl<'a> Parser<'a> {
     {
         match self.dictionary.look_up(token) {
             Some(entry) => known_sense(entry.known),
-            None => sense_of(token, self.host.base()),
+            None => sense_of(self.words, token, self.host.base()),
         }
     }
 
     /// What a token stands for in brackets.
     fn host_sense(&mut self, token: &str) -> HostSense
-        ensures value { result ≡ host_sense_in self.old.dictionary.pairs (base_at (parser_state self.old)) token.now }
+        ensures value { result ≡ host_sense_in self.old.words self.old.dictionary.pairs (base_at (parser_state self.old)) token.now }
         ensures same { parser_state self.new ≡ parser_state self.old }
         ensures entries { self.new.dictionary.pairs ≡ self.old.dictionary.pairs }
         ensures reader { self.new.reader ≡ self.old.reader }
@@ -121,13 +123,13 @@ impl<'a> Parser<'a> {
     {
         match self.dictionary.look_up(token) {
             Some(entry) => known_host_sense(entry.known),
-            None => host_sense_of(token, self.host.base()),
+            None => host_sense_of(self.words, token, self.host.base()),
         }
     }
 
     /// What a token stands for outside definitions.
     fn outside_sense(&mut self, token: &str) -> OutsideSense
-        ensures value { result ≡ outside_sense_in self.old.dictionary.pairs (base_at (parser_state self.old)) token.now }
+        ensures value { result ≡ outside_sense_in self.old.words self.old.dictionary.pairs (base_at (parser_state self.old)) token.now }
         ensures same { parser_state self.new ≡ parser_state self.old }
         ensures entries { self.new.dictionary.pairs ≡ self.old.dictionary.pairs }
         ensures reader { self.new.reader ≡ self.old.reader }
@@ -135,7 +137,7 @@ impl<'a> Parser<'a> {
     {
         match self.dictionary.look_up(token) {
             Some(entry) => known_outside_sense(entry.known),
-            None => outside_sense_of(token, self.host.base()),
+            None => outside_sense_of(self.words, token, self.host.base()),
         }
     }
 

@@ -18,6 +18,7 @@ use forth_program::Program;
 use host_state::{HostState, host_words_keep};
 use std::alloc::{AllocError, Global};
 use std::marker::Model;
+use word_table::Vocabulary;
 
 /// What a source was before a piece.
 #[derive(Drop)]
@@ -31,6 +32,8 @@ pub(crate) struct SourceMark {
     definitions: u16,
     host: HostState,
     does: bool,
+    /// The words that the text may use.
+    words: Vocabulary,
     /// How many names, bodies and defining words there were.
     names: usize,
     bodies: usize,
@@ -53,6 +56,7 @@ impl<'a> ReadSource<'a> {
             definitions: self.parser.definitions,
             host,
             does: self.parser.does,
+            words: self.parser.words,
             names: self.names.len(),
             bodies: self.bodies.len(),
             defining: self.defining.len(),
@@ -86,6 +90,7 @@ impl<'a> ReadSource<'a> {
             definitions,
             host,
             does,
+            words,
             ..
         } = parser;
         ReadSource {
@@ -97,6 +102,7 @@ impl<'a> ReadSource<'a> {
                 definitions,
                 host,
                 does,
+                words,
             },
             names,
             bodies,
@@ -110,7 +116,7 @@ impl<'a> ReadSource<'a> {
         requires entries { mark.entries.0 ≤ length self.parser.dictionary.pairs }
         requires count { mark.count < 4294967295 }
         ensures source { source_of result ≡ record {
-          at = record { rest = []; count = mark.count; weight = mark.weight; nest = mark.nest; entries = take mark.entries.0 self.entry.parser.dictionary.pairs; definitions = mark.definitions; host = mark.host; does = mark.does };
+          at = record { rest = []; count = mark.count; weight = mark.weight; nest = mark.nest; entries = take mark.entries.0 self.entry.parser.dictionary.pairs; definitions = mark.definitions; host = mark.host; does = mark.does; words = mark.words };
           names = take mark.names self.entry.names.items;
           bodies = map tree_of (take mark.bodies self.entry.bodies.items);
           defining = map defining_word_of (take mark.defining self.entry.defining.items);
@@ -144,6 +150,7 @@ impl<'a> ReadSource<'a> {
                 definitions: mark.definitions,
                 host: mark.host,
                 does: mark.does,
+                words: mark.words,
             },
             names,
             bodies,
@@ -208,7 +215,7 @@ impl Reading {
     pub fn new(alloc: Global) -> Result<Reading, AllocError>
         ensures { IfOk result (λ reading. reading ≡ []) }
     {
-        let source = ReadSource::new(alloc, b"")?;
+        let source = ReadSource::new(alloc, Vocabulary::Source, b"")?;
         Ok(Reading {
             alloc,
             bytes: Vec::new(alloc),

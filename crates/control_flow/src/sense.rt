@@ -1,6 +1,6 @@
 // What tokens stand for.
 ghost use Rattle.std.specs.Prelude.{◌≡◌};
-ghost use Rattle.word_table.specs.Names.{word_named};
+ghost use Rattle.word_table.specs.Names.{word_in, word_named};
 ghost use Rattle.control_flow.specs.Sense.{sense_by, word_sense, acting_sense, structure_sense, number_sense, known_sense, is_create};
 ghost use Rattle.control_flow.specs.OutsideWords.{is_reserved, is_reserved_name};
 
@@ -8,7 +8,7 @@ use crate::nest::{Ending, Opening};
 use forth_program::TextKind;
 use forth_reader::{NumberRead, number_of};
 use host_state::Known;
-use word_table::{Class, Word, entry, word_of};
+use word_table::{Class, Vocabulary, Word, entry, word_in, word_of};
 
 /// What a token stands for inside a definition.
 #[derive(Clone, Copy)]
@@ -148,10 +148,10 @@ pub(crate) fn is_create(sense: Sense) -> bool
 }
 
 /// What a token stands for that is no name of a definition: first a word of the table, then a number in this base.
-pub(crate) fn sense_of(token: &str, base: u16) -> Sense
-    ensures { result ≡ sense_by base token.now (word_named token.now) }
+pub(crate) fn sense_of(words: Vocabulary, token: &str, base: u16) -> Sense
+    ensures { result ≡ sense_by base token.now (word_in words token.now) }
 {
-    match word_of(token) {
+    match word_in(words, token) {
         Some(word) => word_sense(word),
         None => number_sense(number_of(token, base)),
     }

@@ -103,7 +103,7 @@ impl<'a> Parser<'a> {
 
     /// What the name stands for that is ticked.
     pub(crate) fn ticked(&mut self, name: &str) -> Result<Ticked, SourceCause>
-        ensures value { result ≡ ticked_in self.old.dictionary.pairs name.now }
+        ensures value { result ≡ ticked_in self.old.words self.old.dictionary.pairs name.now }
         ensures same { parser_state self.new ≡ parser_state self.old }
         ensures entries { self.new.dictionary.pairs ≡ self.old.dictionary.pairs }
         ensures reader { self.new.reader ≡ self.old.reader }
@@ -111,7 +111,7 @@ impl<'a> Parser<'a> {
     {
         match self.dictionary.look_up(name) {
             Some(entry) => entry_ticked(entry),
-            None => word_ticked(name),
+            None => word_ticked(self.words, name),
         }
     }
 

@@ -2,9 +2,10 @@
 ghost use Rattle.std.specs.Prelude.{◌≡◌, ℕ, ◌+◌, ◌<◌, ◌≤◌, length, IfOk, IfErr, OnOk};
 ghost use Rattle.forth_program.specs.Form.{IsProgram};
 ghost use Rattle.forth_program.specs.ItemTrees.{tree_of};
+ghost use Rattle.word_table.specs.declared.word.Vocabulary.TheVariants as vocabulary;
 ghost use Rattle.forth_reader.specs.Name.{IsName};
 ghost use Rattle.control_flow.specs.ParseResult.{Each};
-ghost use Rattle.control_flow.specs.SourceText.{main_of, source_start, with_body, with_definition, with_defining, defining_at, definition_at, outside_by, program_of_source, program_of_text};
+ghost use Rattle.control_flow.specs.SourceText.{main_of, source_start, with_body, with_definition, with_defining, defining_at, definition_at, outside_by, program_of_source, program_in, program_of_text};
 ghost use Rattle.control_flow.specs.Pieces.{read_at};
 ghost use Rattle.control_flow.specs.ReadingState.{Grows};
 ghost use Rattle.control_flow.specs.Answers.{parser_state, source_of, IsReadyParser, IsCounted, AnswersAs};
@@ -21,6 +22,7 @@ use dictionary_core::Dictionary;
 use forth_program::{DefId, Items, Name, Program, ProgramParts};
 use host_state::{Entry, HostItem, HostState, Known, host_words_keep};
 use std::alloc::{AllocError, Global};
+use word_table::Vocabulary;
 
 /// What is read of a source so far.
 #[derive(Drop)]
@@ -58,9 +60,13 @@ fn main_of(entry: Option<Entry>) -> Option<u16>
 
 impl<'a> ReadSource<'a> {
     /// A source at its start.
-    pub(crate) fn new(alloc: Global, bytes: &'a [u8]) -> Result<ReadSource<'a>, AllocError>
+    pub(crate) fn new(
+        alloc: Global,
+        words: Vocabulary,
+        bytes: &'a [u8],
+    ) -> Result<ReadSource<'a>, AllocError>
         requires { length bytes.now < 4294967295 }
-        ensures start { IfOk result (λ source. source_of source ≡ source_start bytes.now) }
+        ensures start { IfOk result (λ source. source_of source ≡ source_start words bytes.now) }
         ensures ready { IfOk result (λ source. IsReadyParser source.parser) }
         ensures counted { IfOk result (λ source. IsCounted source) }
     {
@@ -75,6 +81,7 @@ impl<'a> ReadSource<'a> {
                 definitions: 0,
                 host,
                 does: false,
+                words,
             },
             names: Vec::new(alloc),
             bodies: Vec::new(alloc),
@@ -317,8 +324,24 @@ pub fn read_program(alloc: Global, bytes: &[u8]) -> Result<Program, SourceError>
     requires { length bytes.now < 4294967295 }
     ensures { AnswersAs (λ program. program) result (program_of_text bytes.now) }
 {
+    read_in(alloc, Vocabulary::Source, bytes)
+}
+
+/// The program of a kernel text, which may use `GO` beside the words of a source, or its first refusal.
+pub fn read_kernel(alloc: Global, bytes: &[u8]) -> Result<Program, SourceError>
+    requires { length bytes.now < 4294967295 }
+    ensures { AnswersAs (λ program. program) result (program_in vocabulary.Kernel bytes.now) }
+{
+    read_in(alloc, Vocabulary::Kernel, bytes)
+}
+
+/// The program of a text in a vocabulary, or its first refusal.
+fn read_in(alloc: Global, words: Vocabulary, bytes: &[u8]) -> Result<Program, SourceError>
+    requires { length bytes.now < 4294967295 }
+    ensures { AnswersAs (λ program. program) result (program_in words bytes.now) }
+{
     host_words_keep();
-    let mut source = match ReadSource::new(alloc, bytes) {
+    let mut source = match ReadSource::new(alloc, words, bytes) {
         Ok(source) => source,
         Err(AllocError) => return Err(SourceError::OutOfMemory),
     };

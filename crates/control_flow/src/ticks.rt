@@ -3,14 +3,14 @@ ghost use Rattle.std.specs.Prelude.{◌≡◌, IfOk, map};
 ghost use Rattle.forth_program.specs.Tree as tree;
 ghost use Rattle.forth_program.specs.Form.{may_be_token};
 ghost use Rattle.forth_program.specs.Parts.{token_node};
-ghost use Rattle.word_table.specs.Names.{word_named};
+ghost use Rattle.word_table.specs.Names.{word_in};
 ghost use Rattle.control_flow.specs.Ticks.{known_ticked, word_ticked, ticked_node, token_nodes, tick_weight};
 
 use crate::refusal::SourceCause;
 use forth_program::{DefId, Token};
 use host_state::{Entry, Known, Ticked};
 use std::alloc::{AllocError, Global};
-use word_table::{Class, Word, entry, word_of};
+use word_table::{Class, Vocabulary, Word, entry, word_in};
 
 /// The execution token of a name that is defined.
 pub(crate) fn entry_ticked(entry: Entry) -> Result<Ticked, SourceCause>
@@ -31,6 +31,7 @@ fn may_be_ticked(word: Word) -> bool
 {
     match word {
         Word::Execute => false,
+        Word::Go => false,
         _ => match entry(word).class {
             Class::Inline => true,
             Class::Library => true,
@@ -40,10 +41,10 @@ fn may_be_ticked(word: Word) -> bool
 }
 
 /// The execution token of a name that is not defined.
-pub(crate) fn word_ticked(name: &str) -> Result<Ticked, SourceCause>
-    ensures { result ≡ word_ticked (word_named name.now) }
+pub(crate) fn word_ticked(words: Vocabulary, name: &str) -> Result<Ticked, SourceCause>
+    ensures { result ≡ word_ticked (word_in words name.now) }
 {
-    match word_of(name) {
+    match word_in(words, name) {
         Some(word) => {
             if may_be_ticked(word) {
                 Ok(Ticked::Word(word))
