@@ -1,7 +1,8 @@
 -- Small texts, as the checker reads them by the definitions.
 use Rattle.std.proofs.Common.{◌≡◌, [], ◌∷◌, ◌++◌, replicate, refl}
 use Rattle.std.specs.Prelude.{ℕ, List, zero, suc, true, false, codes}
-use Rattle.word_table.specs.declared.word.Word.TheVariants.{Emit, Dup, Index, TypeOut, Execute}
+use Rattle.word_table.specs.declared.word.Vocabulary.TheVariants as vocabulary
+use Rattle.word_table.specs.declared.word.Word.TheVariants.{Emit, Dup, Index, TypeOut, Execute, Go}
 use Rattle.forth_program.specs.declared.item.TextKind.TheVariants as text
 use Rattle.forth_program.specs.Tree.{Literal, Plain, Call, Text, If, Until, While, Again, Do, QDo, Case, Leave, Exit, Empty, Then, NoArm, Arm}
 use Rattle.host_state.specs.declared.entry.Known.TheVariants as known
@@ -12,7 +13,7 @@ use Rattle.control_flow.specs.ParseResult.{Fine, Refused}
 use Rattle.control_flow.specs.Brackets.{bracket_at}
 use Rattle.control_flow.specs.Items.{items_at}
 use Rattle.control_flow.specs.HostParts.{host_part_at}
-use Rattle.control_flow.specs.SourceText.{program_with, source_at, first_host, program_of_text}
+use Rattle.control_flow.specs.SourceText.{program_with, source_at, first_host, program_in, program_of_text}
 
 empty_body : program_of_text (codes ": MAIN ;") ≡ Fine (program_with (codes "MAIN" ∷ []) (Empty ∷ []) 0 3 first_host)
 unfolding items_at source_at
@@ -227,3 +228,25 @@ too_heavy_at_the_end = refl
 too_heavy_loop : program_of_text (codes ": MAIN DO " ++ dups 2381 (codes "LOOP ;")) ≡ Refused 2385 cause.CodeFull
 unfolding items_at source_at
 too_heavy_loop = refl
+
+-- ---- GO, a word of kernels alone
+
+go_in_kernel : program_in vocabulary.Kernel (codes ": MAIN 5 go ;") ≡ Fine (program_with (codes "MAIN" ∷ []) ((Then (Literal 5) (Then (Plain Go) Empty)) ∷ []) 0 5 first_host)
+unfolding items_at source_at
+go_in_kernel = refl
+
+go_in_source : program_of_text (codes ": MAIN 5 GO ;") ≡ Refused 4 cause.UnknownWord
+unfolding items_at source_at
+go_in_source = refl
+
+ticked_go : program_in vocabulary.Kernel (codes ": MAIN ['] GO") ≡ Refused 4 cause.NeedsName
+unfolding items_at source_at
+ticked_go = refl
+
+go_in_brackets : program_in vocabulary.Kernel (codes ": MAIN [ GO") ≡ Refused 4 cause.NotInDefinition
+unfolding items_at source_at bracket_at
+go_in_brackets = refl
+
+go_outside : program_in vocabulary.Kernel (codes "GO") ≡ Refused 1 cause.OnlyInDefinition
+unfolding source_at
+go_outside = refl
