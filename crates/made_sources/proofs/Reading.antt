@@ -4,6 +4,7 @@ use Rattle.std.proofs.Math.Numerals.{add-one}
 use Rattle.std.specs.Prelude.{codes, decimal}
 use Rattle.std.specs.Str.{str_to_ascii_lowercase}
 use Rattle.word_table.specs.declared.word.Word.TheVariants as word
+use Rattle.word_table.specs.declared.word.Vocabulary.TheVariants as vocabulary
 use Rattle.word_table.specs.Table.{entry_of}
 use Rattle.word_table.specs.Names.{word_named}
 use Rattle.forth_program.specs.Tree.{Nodes, Literal, Plain, Call, Then}
@@ -43,12 +44,12 @@ end_token = is_token (59 ∷ []) (omega arith) (omega arith) refl refl refl
 unknown : (at : ParserState) (token : List ℕ) (place : ℕ) → at.entries ≡ entries_to place → place ≤ 200 → is_numbered (str_to_ascii_lowercase token) ≡ false → newest_value at.entries token ≡ None
 unknown at token place entries small differs = ap (λ e. newest_value e token) entries ∙ not_found token place small differs
 
-operation_item : (kind place : ℕ) (at seen : ParserState) (go : ParserState → ParseResult Many) (m : ℕ) → at.entries ≡ entries_to place → place ≤ 200 →
-    items_by go m seen (sense_in at.entries (base_at at) (operation kind)) ≡ then_items go (alone (entry_of (operation_word kind)).weight (Plain (operation_word kind)) seen)
-operation_item zero place at seen go m entries small = word_item at seen (operation 0) go m word.Plus 1 (unknown at (operation 0) place entries small refl) refl
-operation_item (suc zero) place at seen go m entries small = word_item at seen (operation 1) go m word.Xor 1 (unknown at (operation 1) place entries small refl) refl
-operation_item (suc (suc zero)) place at seen go m entries small = word_item at seen (operation 2) go m word.Minus 4 (unknown at (operation 2) place entries small refl) refl
-operation_item (suc (suc (suc kind))) place at seen go m entries small = word_item at seen (operation 3) go m word.Star 1 (unknown at (operation 3) place entries small refl) refl
+operation_item : (kind place : ℕ) (at seen : ParserState) (go : ParserState → ParseResult Many) (m : ℕ) → at.entries ≡ entries_to place → place ≤ 200 → at.words ≡ vocabulary.Source →
+    items_by go m seen (sense_in at.words at.entries (base_at at) (operation kind)) ≡ then_items go (alone (entry_of (operation_word kind)).weight (Plain (operation_word kind)) seen)
+operation_item zero place at seen go m entries small source = word_item at seen (operation 0) go m word.Plus 1 (unknown at (operation 0) place entries small refl) source refl
+operation_item (suc zero) place at seen go m entries small source = word_item at seen (operation 1) go m word.Xor 1 (unknown at (operation 1) place entries small refl) source refl
+operation_item (suc (suc zero)) place at seen go m entries small source = word_item at seen (operation 2) go m word.Minus 4 (unknown at (operation 2) place entries small refl) source refl
+operation_item (suc (suc (suc kind))) place at seen go m entries small source = word_item at seen (operation 3) go m word.Star 1 (unknown at (operation 3) place entries small refl) source refl
 
 light_operation : (kind : ℕ) → (entry_of (operation_word kind)).weight ≤ 4
 light_operation zero = omega arith
@@ -66,12 +67,12 @@ line_is : (place v : ℕ) (more : List ℕ) → definition place v ++ more ≡ 5
 line_is place v more = simp append_assoc
 
 -- behind a `:`
-colon_is : (at : ParserState) (more : List ℕ) → next_from at.count at.rest ≡ next_from at.count (58 ∷ 32 ∷ more) → newest_value at.entries (58 ∷ []) ≡ None →
+colon_is : (at : ParserState) (more : List ℕ) → next_from at.count at.rest ≡ next_from at.count (58 ∷ 32 ∷ more) → newest_value at.entries (58 ∷ []) ≡ None → at.words ≡ vocabulary.Source →
     outside_at at ≡ Fine (record { sense = Some (outside_sense_by 10 (58 ∷ []) (word_named (58 ∷ []))); at = behind at (32 ∷ more) })
-colon_is at more same none = ap (outside_of at) same ∙ ap (λ sense. Fine (record { sense = Some sense; at = behind at (32 ∷ more) })) begins
+colon_is at more same none source = ap (outside_of at) same ∙ ap (λ sense. Fine (record { sense = Some sense; at = behind at (32 ∷ more) })) begins
   where
-    begins : outside_sense_in at.entries (base_at at) (58 ∷ []) ≡ outside_sense_by 10 (58 ∷ []) (word_named (58 ∷ []))
-    begins = rw (none, outside_sense_in) refl
+    begins : outside_sense_in at.words at.entries (base_at at) (58 ∷ []) ≡ outside_sense_by 10 (58 ∷ []) (word_named (58 ∷ []))
+    begins = rw (none, source, outside_sense_in) refl
 
 definable_is : (named : Named) → word_named named.name ≡ None → length named.at.entries < 512 → definable named ≡ Fine named
 definable_is named none few = rw (none, lt-ltb (length named.at.entries) 512 few, definable) refl
@@ -131,14 +132,14 @@ tokens_to (suc place) = let r = tokens_to place in omega arith
 
 -- behind the definitions up to a place, which are so many
 abbrev state_with : ℕ → ℕ → ℕ → List ℕ → ParserState
-state_with seed place definitions rest = record (beginning rest) { count = count_to place; weight = weight_to seed place; entries = entries_to place; definitions = definitions }
+state_with seed place definitions rest = record (beginning vocabulary.Source rest) { count = count_to place; weight = weight_to seed place; entries = entries_to place; definitions = definitions }
 
 abbrev source_with : ℕ → ℕ → ℕ → List ℕ → Source
-source_with seed place definitions rest = record (source_start rest) {
+source_with seed place definitions rest = record (source_start vocabulary.Source rest) {
   at = state_with seed place definitions rest;
   names = names_to place;
   bodies = bodies_to seed place;
-  before = elim place [ zero ↦ (source_start []).before | suc earlier ↦ before_by (source_start []).before false ];
+  before = elim place [ zero ↦ (source_start vocabulary.Source []).before | suc earlier ↦ before_by (source_start vocabulary.Source []).before false ];
 }
 
 abbrev source_to : ℕ → ℕ → List ℕ → Source
@@ -148,11 +149,11 @@ below_range : (seed place : ℕ) → number_at seed (suc place) < 65536
 below_range seed place = omega arith
 
 module _ (next : NextIsComputed) (names : NameIsComputed) where
-  number_items : (n v place : ℕ) (at : ParserState) (more : List ℕ) → at.rest ≡ number_text v more → v < 65536 → at.entries ≡ entries_to place → place ≤ 200 →
-      sense_in at.entries (base_at at) (decimal v) ≡ number_sense (Value v) → at.nest ≡ [] → at.host.space.data_start ≡ 8192 → at.weight ≤ 2390 →
+  number_items : (n v place : ℕ) (at : ParserState) (more : List ℕ) → at.rest ≡ number_text v more → v < 65536 → at.entries ≡ entries_to place → place ≤ 200 → at.words ≡ vocabulary.Source →
+      sense_in at.words at.entries (base_at at) (decimal v) ≡ number_sense (Value v) → at.nest ≡ [] → at.host.space.data_start ≡ 8192 → at.weight ≤ 2390 →
       items_at (suc (suc (suc n))) at ≡ Fine
       (record { nodes = number_body v; ending = ending.Semicolon; at = record at { rest = 10 ∷ more; count = at.count + 1 + 1 + 1; nest = []; weight = at.weight + 2 + operation_weight v + 1 } })
-  number_items n v place at more text h entries small is outside start light =
+  number_items n v place at more text h entries small source is outside start light =
       let a = behind at (32 ∷ (operation (v % 4) ++ (32 ∷ 59 ∷ 10 ∷ more))) in
       let b = behind (record a { weight = a.weight + 2 }) (32 ∷ 59 ∷ 10 ∷ more) in
       let c = behind (record b { weight = b.weight + operation_weight v }) (10 ∷ more) in
@@ -162,10 +163,10 @@ module _ (next : NextIsComputed) (names : NameIsComputed) where
       (λ go m. number_item at a (decimal v) go m v is) (omega (arith, start, light))
       (item_then (suc n) (record a { weight = a.weight + 2 }) b (operation (v % 4)) (operation_weight v) (Plain (operation_word (v % 4))) _
       (token_is next names (record a { weight = a.weight + 2 }) (operation (v % 4)) (32 ∷ 59 ∷ 10 ∷ more) refl (operation_token (v % 4)) refl)
-      (λ go m. operation_item (v % 4) place (record a { weight = a.weight + 2 }) b go m entries small) (omega (arith, start, light, o))
+      (λ go m. operation_item (v % 4) place (record a { weight = a.weight + 2 }) b go m entries small source) (omega (arith, start, light, o))
       (items_end n (record b { weight = b.weight + operation_weight v }) c
       (token_is next names (record b { weight = b.weight + operation_weight v }) (59 ∷ []) (10 ∷ more) refl end_token refl)
-      (unknown (record b { weight = b.weight + operation_weight v }) (59 ∷ []) place entries small refl) outside (omega (arith, start, light, o))))
+      (unknown (record b { weight = b.weight + operation_weight v }) (59 ∷ []) place entries small refl) source outside (omega (arith, start, light, o))))
 
   -- one definition more
   definition_read : (n seed place : ℕ) (rest more : List ℕ) → place < 200 →
@@ -178,16 +179,16 @@ module _ (next : NextIsComputed) (names : NameIsComputed) where
       let few = few_entries place in
       let light = light_to seed place in
       let first = behind named (32 ∷ (operation (v % 4) ++ (32 ∷ 59 ∷ 10 ∷ more))) in
-      let is : sense_in named.entries (base_at named) (decimal v) ≡ number_sense (Value v) =
+      let is : sense_in named.words named.entries (base_at named) (decimal v) ≡ number_sense (Value v) =
       number_is_sense named (decimal v) v (number_not_found v place (below_range seed place) (omega arith)) (number_is_no_word v (below_range seed place)) refl (number_is v (below_range seed place)) in
-      defined (suc (suc (suc n))) (source_to seed place rest) at named _ (made_name (place + 1)) (number_body v) (record { sense = sense_in named.entries (base_at named) (decimal v); at = first })
+      defined (suc (suc (suc n))) (source_to seed place rest) at named _ (made_name (place + 1)) (number_body v) (record { sense = sense_in named.words named.entries (base_at named) (decimal v); at = first })
       (colon_is (state_with seed place place rest) (made_name (place + 1) ++ number_text v more) (same ∙ ap (next_from (count_to place)) (line_is (place + 1) v more))
-      (unknown (state_with seed place place rest) (58 ∷ []) place refl (omega arith) refl))
+      (unknown (state_with seed place place rest) (58 ∷ []) place refl (omega arith) refl) refl)
       (name_is next names at (made_name (place + 1)) (number_text v more) refl (name_token (place + 1) (omega arith)) refl)
       (definable_is (record { name = made_name (place + 1); at = named }) (name_is_no_word (place + 1) (omega arith)) (omega (arith, few)))
       (token_is next names named (decimal v) (32 ∷ (operation (v % 4) ++ (32 ∷ 59 ∷ 10 ∷ more))) refl (number_token v (below_range seed place)) refl)
       (ap is_create is)
-      (number_items (suc n) v place named more refl (below_range seed place) refl (omega arith) is refl refl (omega (arith, light)))
+      (number_items (suc n) v place named more refl (below_range seed place) refl (omega arith) refl is refl refl (omega (arith, light)))
       ∙ ap (λ d. source_at (suc (suc (suc n))) (source_with seed (suc place) d (10 ∷ more))) (add-one place)
 
 -- ---- all definitions
@@ -234,10 +235,10 @@ module _ (next : NextIsComputed) (names : NameIsComputed) where
 
   -- the calls of MAIN and its print
   calls_read : (count definition last k : ℕ) (at : ParserState) (tokens weight : ℕ) → at.rest ≡ calls count (definition + 1) ++ print_text → at.entries ≡ entries_to last → definition + count ≡ last → last ≤ 200 →
-      at.nest ≡ [] →
+      at.words ≡ vocabulary.Source → at.nest ≡ [] →
       at.host.space.data_start ≡ 8192 → at.weight + count ≤ 2390 → tokens ≡ at.count + count + 2 → weight ≡ at.weight + count + 2 →
       items_at (suc (suc (more_fuel count k))) at ≡ Fine (record { nodes = calls_and_print count definition; ending = ending.Semicolon; at = record at { rest = 10 ∷ []; count = tokens; nest = []; weight = weight } })
-  calls_read zero definition last k at tokens weight text entries sum small outside start light counted weighed =
+  calls_read zero definition last k at tokens weight text entries sum small source outside start light counted weighed =
       let a = behind at (32 ∷ 59 ∷ 10 ∷ []) in
       let b = record a { weight = a.weight + 1 } in
       let c = behind b (10 ∷ []) in
@@ -245,18 +246,18 @@ module _ (next : NextIsComputed) (names : NameIsComputed) where
       let w : at.weight + 1 + 1 ≡ weight = omega arith in
       item_then (suc k) at a (codes "U.") 1 (Plain word.UDot) _
       (token_is next names at (codes "U.") (32 ∷ 59 ∷ 10 ∷ []) text (is_token (codes "U.") (omega arith) (omega arith) refl refl refl) refl)
-      (λ go m. word_item at a (codes "U.") go m word.UDot 1 (unknown at (codes "U.") last entries small refl) refl) (omega (arith, start, light))
-      (items_end k b c (token_is next names b (59 ∷ []) (10 ∷ []) refl end_token refl) (unknown b (59 ∷ []) last entries small refl) outside (omega (arith, start, light)))
+      (λ go m. word_item at a (codes "U.") go m word.UDot 1 (unknown at (codes "U.") last entries small refl) source refl) (omega (arith, start, light))
+      (items_end k b c (token_is next names b (59 ∷ []) (10 ∷ []) refl end_token refl) (unknown b (59 ∷ []) last entries small refl) source outside (omega (arith, start, light)))
       ∙ ap (λ t. Fine (record { nodes = calls_and_print zero definition; ending = ending.Semicolon; at = record at { rest = 10 ∷ []; count = t; nest = []; weight = at.weight + 1 + 1 } })) t
       ∙ ap (λ w. Fine (record { nodes = calls_and_print zero definition; ending = ending.Semicolon; at = record at { rest = 10 ∷ []; count = tokens; nest = []; weight = w } })) w
-  calls_read (suc count) definition last k at tokens weight text entries sum small outside start light counted weighed =
+  calls_read (suc count) definition last k at tokens weight text entries sum small source outside start light counted weighed =
       let a = behind at (calls count (definition + 1 + 1) ++ print_text) in
       let b = record a { weight = a.weight + 1 } in
       item_then (suc (suc (more_fuel count k))) at a (made_name (definition + 1)) 1 (Call definition) _
       (token_is next names at (made_name (definition + 1)) (calls count (definition + 1 + 1) ++ print_text) (text ∙ call_text count (definition + 1)) (name_token (definition + 1) (omega arith))
       (calls_follow count (definition + 1 + 1)))
       (λ go m. call_item at a (made_name (definition + 1)) go m definition (ap (λ e. newest_value e (made_name (definition + 1))) entries ∙ found definition last small (omega arith))) (omega (arith, start, light))
-      (calls_read count (definition + 1) last k b tokens weight refl entries (omega arith) small outside start (omega (arith, light)) (omega (arith, counted)) (omega (arith, weighed)))
+      (calls_read count (definition + 1) last k b tokens weight refl entries (omega arith) small source outside start (omega (arith, light)) (omega (arith, counted)) (omega (arith, weighed)))
 
   -- MAIN, and then the end of the text
   main_read : (seed count k : ℕ) (rest : List ℕ) → count ≤ 200 → next_from (count_to count) rest ≡ next_from (count_to count) (codes ": MAIN 1" ++ (calls count 1 ++ print_text)) →
@@ -274,10 +275,10 @@ module _ (next : NextIsComputed) (names : NameIsComputed) where
       let counted = tokens_to count in
       let nodes = Then (Literal 1) (calls_and_print count 0) in
       let t : count_to count + 1 + 1 + 1 + count + 2 ≡ 6 * count + 5 = omega arith in
-      let is : sense_in named.entries (base_at named) (codes "1") ≡ number_sense (Value 1) = number_is_sense named (codes "1") 1 (unknown named (codes "1") count refl small refl) refl refl refl in
+      let is : sense_in named.words named.entries (base_at named) (codes "1") ≡ number_sense (Value 1) = number_is_sense named (codes "1") 1 (unknown named (codes "1") count refl small refl) refl refl refl in
       let read = token_is next names named (codes "1") (calls count 1 ++ print_text) refl (is_token (codes "1") (omega arith) (omega arith) refl refl refl) (calls_follow count 1) in
-      defined (suc (suc (suc (more_fuel count k)))) (source_to seed count rest) at named after (codes "MAIN") nodes (record { sense = sense_in named.entries (base_at named) (codes "1"); at = one })
-      (colon_is front (codes "MAIN 1" ++ (calls count 1 ++ print_text)) same (unknown front (58 ∷ []) count refl small refl))
+      defined (suc (suc (suc (more_fuel count k)))) (source_to seed count rest) at named after (codes "MAIN") nodes (record { sense = sense_in named.words named.entries (base_at named) (codes "1"); at = one })
+      (colon_is front (codes "MAIN 1" ++ (calls count 1 ++ print_text)) same (unknown front (58 ∷ []) count refl small refl) refl)
       (name_is next names at (codes "MAIN") (codes " 1" ++ (calls count 1 ++ print_text)) refl (is_token (codes "MAIN") (omega arith) (omega arith) refl refl refl) refl)
       (definable_is (record { name = codes "MAIN"; at = named }) refl (omega (arith, few)))
       read
@@ -286,7 +287,7 @@ module _ (next : NextIsComputed) (names : NameIsComputed) where
       ∙ item_then (suc (suc (more_fuel count (suc k)))) named one (codes "1") 2 (Literal 1) _
       read
       (λ go m. number_item named one (codes "1") go m 1 is) (omega (arith, light))
-      (calls_read count 0 count (suc k) b (b.count + count + 2) (b.weight + count + 2) refl refl (omega arith) small refl refl (omega (arith, light)) refl refl))
+      (calls_read count 0 count (suc k) b (b.count + count + 2) (b.weight + count + 2) refl refl (omega arith) small refl refl refl (omega (arith, light)) refl refl))
       ∙ ap (λ main. elim (main_of main) [ Some m ↦ Fine (program_with (names_to count ++ codes "MAIN" ∷ []) (bodies_to seed count ++ nodes ∷ []) m after.count first_host) | None ↦ Refused (after.count + 1) cause.NoMain ])
       (newest_behind (entries_to count) (pair (codes "MAIN") (made_entry count)) (codes "MAIN"))
       ∙ ap (λ t. Fine (program_with (names_to count ++ codes "MAIN" ∷ []) (bodies_to seed count ++ nodes ∷ []) count t first_host)) t
@@ -335,7 +336,7 @@ program_is next names seed count small =
     let outer = more_is count (more_fuel count k) in
     let fuel : suc (length (made_source seed count)) ≡ suc (suc (suc (suc (more_fuel count (more_fuel count k))))) = omega arith in
     let all = definitions_read next names count (more_fuel count k) seed 0 count (made_source seed count) (codes ": MAIN 1" ++ (calls count 1 ++ print_text)) (omega arith) small refl in
-    ap (λ n. source_at n (source_start (made_source seed count))) fuel ∙ all.reads ∙ main_read next names seed count k all.left small all.same
+    ap (λ n. source_at n (source_start vocabulary.Source (made_source seed count))) fuel ∙ all.reads ∙ main_read next names seed count k all.left small all.same
 
 pub sources_read : NextIsComputed → NameIsComputed → MadeSourcesAreRead
 sources_read next names seed count small = (source_short seed count small, program_is next names seed count small)

@@ -5,7 +5,8 @@ use Rattle.std.specs.List.{list_all}
 use Rattle.std.proofs.lemmas.Bool.{and_parts}
 use Rattle.std.proofs.lemmas.Bool.Decides.{nat_tests}
 use Rattle.word_table.specs.declared.word.Word.{Word}
-use Rattle.word_table.specs.Names.{word_named}
+use Rattle.word_table.specs.declared.word.Vocabulary.TheVariants as vocabulary
+use Rattle.word_table.specs.Names.{word_named, word_in}
 use Rattle.forth_program.specs.Tree.{Node, Literal, Plain, Call, Empty, Then}
 use Rattle.forth_reader.specs.declared.number.NumberRead.TheVariants.{Value}
 use Rattle.forth_reader.specs.Number.{number_read}
@@ -85,7 +86,7 @@ module _ (next : NextIsComputed) (names : NameIsComputed) where
   }))
 
   pub token_is : (at : ParserState) (token rest : List ℕ) → at.rest ≡ 32 ∷ (token ++ rest) → IsToken token → may_follow_token rest ≡ true →
-      token_at at ≡ Fine (record { sense = sense_in at.entries (base_at at) token; at = behind at rest })
+      token_at at ≡ Fine (record { sense = sense_in at.words at.entries (base_at at) token; at = behind at rest })
   token_is at token rest text is follows =
       ap (λ t. read_token_of at (next_from at.count t)) text
       ∙ ap (read_token_of at) (next_token at.count token rest is follows)
@@ -111,8 +112,8 @@ ended after = Fine (record { nodes = Empty; ending = ending.Semicolon; at = afte
 
 -- an item of one token, and items behind it
 pub item_then : (n : ℕ) (at seen : ParserState) (token : List ℕ) (weight : ℕ) (node : Node) (many : Many) →
-    token_at at ≡ Fine (record { sense = sense_in at.entries (base_at at) token; at = seen }) →
-    ((go : ParserState → ParseResult Many) (m : ℕ) → items_by go m seen (sense_in at.entries (base_at at) token) ≡ then_items go (alone weight node seen)) →
+    token_at at ≡ Fine (record { sense = sense_in at.words at.entries (base_at at) token; at = seen }) →
+    ((go : ParserState → ParseResult Many) (m : ℕ) → items_by go m seen (sense_in at.words at.entries (base_at at) token) ≡ then_items go (alone weight node seen)) →
     seen.weight + weight ≤ most_weight seen → items_at n (record seen { weight = seen.weight + weight }) ≡ Fine many →
     items_at (suc n) at ≡ Fine (record many { nodes = Then node many.nodes })
 unfolding items_at
@@ -123,39 +124,39 @@ item_then n at seen token weight node many read stands light rest =
     ∙ ap (λ r. r >>= many_with node) rest
 
 -- the end of a definition, where no definition is named `;`
-pub items_end : (n : ℕ) (at seen : ParserState) → token_at at ≡ Fine (record { sense = sense_in at.entries (base_at at) (59 ∷ []); at = seen }) →
-    newest_value at.entries (59 ∷ []) ≡ None → seen.nest ≡ [] → seen.weight + 1 ≤ most_weight seen →
+pub items_end : (n : ℕ) (at seen : ParserState) → token_at at ≡ Fine (record { sense = sense_in at.words at.entries (base_at at) (59 ∷ []); at = seen }) →
+    newest_value at.entries (59 ∷ []) ≡ None → at.words ≡ vocabulary.Source → seen.nest ≡ [] → seen.weight + 1 ≤ most_weight seen →
     items_at (suc n) at ≡ Fine (record { nodes = Empty; ending = ending.Semicolon; at = record seen { nest = []; weight = seen.weight + 1 } })
 unfolding items_at
-items_end n at seen read none outside light =
+items_end n at seen read none source outside light =
     ap (λ r. r >>= λ seen. items_by (items_at n) n seen.at seen.sense) read
     ∙ stands
     ∙ ap (λ nest. nested seen (nest_ended nest ending.Semicolon) >>= weighed 1 >>= ended) outside
     ∙ ap (λ r. r >>= ended) (weighs seen.count 1 (record seen { nest = [] }) light)
   where
-    stands : items_by (items_at n) n seen (sense_in at.entries (base_at at) (59 ∷ [])) ≡ (nested seen (nest_ended seen.nest ending.Semicolon) >>= weighed 1 >>= ended)
-    stands = rw (none, items_by, sense_in) refl
+    stands : items_by (items_at n) n seen (sense_in at.words at.entries (base_at at) (59 ∷ [])) ≡ (nested seen (nest_ended seen.nest ending.Semicolon) >>= weighed 1 >>= ended)
+    stands = rw (none, source, items_by, sense_in) refl
 
 -- ---- what items stand for
 
 module _ (at : ParserState) (token : List ℕ) where
-  unnamed_sense : newest_value at.entries token ≡ None → sense_in at.entries (base_at at) token ≡ sense_by (base_at at) token (word_named token)
+  unnamed_sense : newest_value at.entries token ≡ None → sense_in at.words at.entries (base_at at) token ≡ sense_by (base_at at) token (word_in at.words token)
   unnamed_sense none = rw (none, sense_in) refl
 
   -- a number
-  pub number_is_sense : (v : ℕ) → newest_value at.entries token ≡ None → word_named token ≡ None → base_at at ≡ 10 → number_read 10 token ≡ Value v → sense_in at.entries (base_at at) token ≡ number_sense (Value v)
+  pub number_is_sense : (v : ℕ) → newest_value at.entries token ≡ None → word_in at.words token ≡ None → base_at at ≡ 10 → number_read 10 token ≡ Value v → sense_in at.words at.entries (base_at at) token ≡ number_sense (Value v)
   number_is_sense v none unnamed base reads = unnamed_sense none ∙ ap (sense_by (base_at at) token) unnamed ∙ ap (λ b. number_sense (number_read b token)) base ∙ ap number_sense reads
 
 module _ (at seen : ParserState) (token : List ℕ) (go : ParserState → ParseResult Many) (m : ℕ) where
   -- a call of the definition that is found
-  pub call_item : (definition : ℕ) → newest_value at.entries token ≡ Some (made_entry definition) → items_by go m seen (sense_in at.entries (base_at at) token) ≡ then_items go (alone 1 (Call definition) seen)
+  pub call_item : (definition : ℕ) → newest_value at.entries token ≡ Some (made_entry definition) → items_by go m seen (sense_in at.words at.entries (base_at at) token) ≡ then_items go (alone 1 (Call definition) seen)
   call_item definition found = rw (found, items_by, sense_in) refl
 
   -- a number
-  pub number_item : (v : ℕ) → sense_in at.entries (base_at at) token ≡ number_sense (Value v) → items_by go m seen (sense_in at.entries (base_at at) token) ≡ then_items go (alone 2 (Literal v) seen)
+  pub number_item : (v : ℕ) → sense_in at.words at.entries (base_at at) token ≡ number_sense (Value v) → items_by go m seen (sense_in at.words at.entries (base_at at) token) ≡ then_items go (alone 2 (Literal v) seen)
   number_item v is = ap (items_by go m seen) is
 
   -- a word of the table
-  pub word_item : (w : Word) (weight : ℕ) → newest_value at.entries token ≡ None → items_by go m seen (sense_by (base_at at) token (word_named token)) ≡ then_items go (alone weight (Plain w) seen) →
-      items_by go m seen (sense_in at.entries (base_at at) token) ≡ then_items go (alone weight (Plain w) seen)
-  word_item w weight none stands = ap (items_by go m seen) (unnamed_sense at token none) ∙ stands
+  pub word_item : (w : Word) (weight : ℕ) → newest_value at.entries token ≡ None → at.words ≡ vocabulary.Source → items_by go m seen (sense_by (base_at at) token (word_named token)) ≡ then_items go (alone weight (Plain w) seen) →
+      items_by go m seen (sense_in at.words at.entries (base_at at) token) ≡ then_items go (alone weight (Plain w) seen)
+  word_item w weight none source stands = ap (items_by go m seen) (unnamed_sense at token none ∙ ap (λ words. sense_by (base_at at) token (word_in words token)) source) ∙ stands
