@@ -12,6 +12,7 @@ use Rattle.word_laws.specs.Bounds.{StaysWithin}
 use Rattle.forth_program.specs.Cells.{AreCells, IsWorld}
 use Rattle.word_laws.specs.Standing.{return_places, standing_at_depths, HasCome, machine_at}
 use Rattle.forth_program.specs.Heights.{end_peak}
+use Rattle.code_layout.specs.Layout.{Routine}
 use Rattle.code_layout.proofs.Work.{ahead, steps_left, unfinished, Returns, ends_at_return, Waits, Pends, Called, Frames}
 use Rattle.code_layout.proofs.Machine.{Laws, Runs, narrower, wider, runs_one}
 use Rattle.code_layout.proofs.Steps.{Comes, Halts, Follows, comes, stays, AllStand}
@@ -19,7 +20,7 @@ use Rattle.code_layout.proofs.Steps.{Comes, Halts, Follows, comes, stays, AllSta
 back_to : (pc : ℕ) → 2 * following pc / 2 % 0x2000 ≡ following pc
 back_to pc = omega arith
 
-module _ (laws : Laws) (p : SourceProgram) (code : List ℕ) (place : ℕ → ℕ) (size : length code ≡ p.data_start / 2) (all : AllStand laws p code place size)
+module _ (laws : Laws) (p : SourceProgram) (code : List ℕ) (place : Routine → ℕ) (size : length code ≡ p.data_start / 2) (all : AllStand laws p code place size)
     (high return_high pc now : ℕ) (world : World) (fits : IsWorld world) (starts : world.data_start ≡ p.data_start)
     (data_above return_above : List (Option ℕ)) where
   abbrev at_end : List Work → List Frame → List ℕ → State

@@ -15,7 +15,7 @@ use Rattle.word_laws.specs.Rings.{OpenConfiguration}
 use Rattle.forth_program.specs.Cells.{AreCells, AreEntries, IsWorld}
 use Rattle.word_laws.specs.Control.{HoldsInstruction}
 use Rattle.word_laws.specs.Standing.{data_places, return_places, StandIn}
-use Rattle.code_layout.specs.Layout.{end_case_cells}
+use Rattle.code_layout.specs.Layout.{Routine, end_case_cells}
 use Rattle.forth_program.specs.SourceTokens.{tokens_of}
 use Rattle.code_layout.proofs.Work.{ahead, unfinished, Placed, Stands, Loops, loops_before, stands_before, Frames}
 use Rattle.code_layout.proofs.Machine.{Laws, Runs, runs_then}
@@ -23,7 +23,7 @@ use Rattle.code_layout.proofs.Phrases.{phrase_runs}
 use Rattle.code_layout.proofs.Steps.{Comes, Follows, comes}
 use Rattle.code_layout.proofs.LoopSteps.{with_cells, at, branches, passes, jumps, do_follows}
 
-module _ (laws : Laws) (p : SourceProgram) (code : List ℕ) (place : ℕ → ℕ) (size : length code ≡ p.data_start / 2) (high return_high : ℕ) (fs : List Frame)
+module _ (laws : Laws) (p : SourceProgram) (code : List ℕ) (place : Routine → ℕ) (size : length code ≡ p.data_start / 2) (high return_high : ℕ) (fs : List Frame)
     (world : World) (fits : IsWorld world) (starts : world.data_start ≡ p.data_start) (base : List (Option ℕ)) where
   abbrev state : List Work → List Entry → List ℕ → State
   state w es c = with_cells laws p code place size high return_high fs world fits starts base w es c

@@ -28,7 +28,7 @@ use Rattle.word_laws.specs.Numbers.{number_cells}
 use Rattle.word_laws.specs.Standing.{data_places, standing_at_depths, standing_as, EndedIn, HasCome, StandIn, machine_at}
 use Rattle.word_laws.specs.Words.{return_need}
 use Rattle.forth_program.specs.Run.{lacks}
-use Rattle.code_layout.specs.Layout.{branch_to, call_to, return_cell, execute_cells, abort_cells}
+use Rattle.code_layout.specs.Layout.{Routine, branch_to, call_to, return_cell, execute_cells, abort_cells}
 use Rattle.code_layout.proofs.Machine.{Laws, Runs, narrower, runs_then, runs_one}
 use Rattle.code_layout.proofs.Phrases.{phrase, is_free, outcome, CellsSuffice, word_ready, word_bounded, word_comes, phrase_runs}
 use Rattle.code_layout.proofs.Routines.{places_below, Returned, Stopped, Answers, IsRoutine, abort_reply, abort_price, IsAborter}
@@ -48,7 +48,7 @@ get_within xs k x found = slice_get_within xs k x found
 get_without : {A : Type 0} (xs : List A) (k : ℕ) → slice_get xs k ≡ None → length xs ≤ k
 get_without xs k found = ⊎_elim (λ inside. let f : None ≡ Some inside.0 = sym found ∙ inside.2 in cc) (λ past. past.0) (slice_get_cases xs k).1
 
-module _ (laws : Laws) (p : SourceProgram) (code : List ℕ) (place : ℕ → ℕ) (size : length code ≡ p.data_start / 2) where
+module _ (laws : Laws) (p : SourceProgram) (code : List ℕ) (place : Routine → ℕ) (size : length code ≡ p.data_start / 2) where
   module _ (high return_high : ℕ) (world : World) (fits : IsWorld world) (starts : world.data_start ≡ p.data_start) where
     -- the state of a routine, and the machine at a place
     abbrev here : List Entry → List ℕ → State

@@ -25,6 +25,7 @@ use Rattle.word_laws.specs.Numbers.{number_cells}
 use Rattle.word_laws.specs.Standing.{return_places, standing_at_depths, standing_as, EndedIn, StandIn, machine_at}
 use Rattle.word_laws.specs.Words.{stands_plain, ChangesBy, LeavesBy}
 use Rattle.forth_program.specs.Heights.{address_height, peak_of, back_of, execute_back, token_back, DepthFits}
+use Rattle.code_layout.specs.Layout.{Routine, Definition}
 use Rattle.code_layout.specs.Agreement.{Shows}
 use Rattle.code_layout.proofs.Machine.{Laws, Runs, narrower, wider, runs_then, runs_one}
 use Rattle.code_layout.proofs.Routines.{places_below, Returned, Stopped, Answers, IsRoutine}
@@ -48,7 +49,7 @@ token_step p Execute c es s may = cc
 token_step p word c es s may = refl
 
 -- what stands as a token may be one
-token_may : (code : List ℕ) (place : ℕ → ℕ) (p : SourceProgram) (node : Node) (at : ℕ) → TokenStands code place p node at → may_be_token node ≡ true
+token_may : (code : List ℕ) (place : Routine → ℕ) (p : SourceProgram) (node : Node) (at : ℕ) → TokenStands code place p node at → may_be_token node ≡ true
 token_may code place p (Literal value) at h = refl
 token_may code place p (Plain word) at h = h.0
 token_may code place p (Call d) at h = refl
@@ -85,7 +86,7 @@ exit_few : (exit : Option (ℤ × ℤ)) (peak before after : ℕ) → exit_low e
 exit_few None peak before after low leaves = absurd leaves
 exit_few (Some exit) peak before after low leaves = change_few exit.0 peak before after low leaves.0
 
-module _ (laws : Laws) (p : SourceProgram) (code : List ℕ) (place : ℕ → ℕ) (size : length code ≡ p.data_start / 2) (all : AllStand laws p code place size) where
+module _ (laws : Laws) (p : SourceProgram) (code : List ℕ) (place : Routine → ℕ) (size : length code ≡ p.data_start / 2) (all : AllStand laws p code place size) where
   -- EXECUTE has led to a token's item, whose code the machine is at; the item comes to what it does, with one instruction more for
   -- its return
   pub record Executes (v : OpenConfiguration) (price now high return_high : ℕ) (f : First) (c : List ℕ) (es : List Entry) (base : List (Option ℕ)) (o : Outcome) : Type 0 where
@@ -129,13 +130,13 @@ module _ (laws : Laws) (p : SourceProgram) (code : List ℕ) (place : ℕ → �
         At q c' = standing_at_depths (machine_at code q base' above above') c' world
 
         -- a definition stands there already
-        call_in_hand : (d at : ℕ) → d < length p.bodies → at ≡ place d → Follows laws p code place size (At at c) 2 then_now high return_high (Goes (called p d (here w es c)))
+        call_in_hand : (d at : ℕ) → d < length p.bodies → at ≡ place (Definition d) → Follows laws p code place size (At at c) 2 then_now high return_high (Goes (called p d (here w es c)))
         call_in_hand d at lt is =
-            let bound = ahead_bound code place p None (place d) _ (all.bodies d lt) in
+            let bound = ahead_bound code place p None (place (Definition d)) _ (all.bodies d lt) in
             record {
               count = 0;
               out = None;
-              to = place d;
+              to = place (Definition d);
               base = base';
               data_above = above;
               return_above = above';
@@ -162,7 +163,7 @@ module _ (laws : Laws) (p : SourceProgram) (code : List ℕ) (place : ℕ → �
             (length (number_cells value)) 1 3 then_now high return_high (Goes (here w es (value ∷ c))) (omega arith) r.2
             (back_to_work next (value ∷ c) r.0 r.1 base' world fits starts returns frames' (small, fc) (omega arith) (omega arith))
 
-        child_in_hand : (d address at next : ℕ) → address < 32768 → StandIn code at (number_cells address) next → d < length p.bodies → HoldsInstruction code next (Jump (place d)) → length c + 1 ≤ high → length base' ≤ return_high →
+        child_in_hand : (d address at next : ℕ) → address < 32768 → StandIn code at (number_cells address) next → d < length p.bodies → HoldsInstruction code next (Jump (place (Definition d))) → length c + 1 ≤ high → length base' ≤ return_high →
             Follows laws p code place size (At at c) 3 then_now high return_high (Goes (called p d (here w es (address ∷ c))))
         child_in_hand d address at next small stands lt holds room back =
             let cell : address < 65536 = omega arith in
@@ -170,9 +171,9 @@ module _ (laws : Laws) (p : SourceProgram) (code : List ℕ) (place : ℕ → �
             let some = number_some address in
             let r = number_runs laws p code place size high return_high at then_now None over world fits starts base' above above' frames' owed address next [] c cell stands room (omega arith) in
             let middle = standing_at_depths (machine_at code next base' r.0 r.1) (address ∷ c) world in
-            comes laws p code place size (At at c) (length (number_cells address) + 1) (place d) 3 then_now high return_high None (called p d (here w es (address ∷ c))) base' r.0 r.1 (omega arith) (omega arith) owed
+            comes laws p code place size (At at c) (length (number_cells address) + 1) (place (Definition d)) 3 then_now high return_high None (called p d (here w es (address ∷ c))) base' r.0 r.1 (omega arith) (omega arith) owed
             (runs_then laws p.data_start high return_high (length (number_cells address)) 1 (At at c) middle _ r.2
-            (runs_one laws p.data_start (suc (length c)) (length base') high return_high middle _ (omega arith) (omega arith) (laws.jumps p.data_start (place d) (machine_at code next base' r.0 r.1) (address ∷ c) world holds)))
+            (runs_one laws p.data_start (suc (length c)) (length base') high return_high middle _ (omega arith) (omega arith) (laws.jumps p.data_start (place (Definition d)) (machine_at code next base' r.0 r.1) (address ∷ c) world holds)))
             (record { stands = all.bodies d lt; loops = loops_before code place p (body_of p d) None [] refl; frames = frames'; cells = (cell, fc); entries = tt; world = fits; starts = starts })
 
         -- a word, and then the return

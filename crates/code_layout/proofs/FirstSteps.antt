@@ -17,6 +17,7 @@ use Rattle.forth_program.specs.Cells.{AreCells, AreEntries, IsWorld}
 use Rattle.word_laws.specs.Control.{HoldsInstruction}
 use Rattle.word_laws.specs.Standing.{return_places, standing_as, machine_at}
 use Rattle.forth_program.specs.Heights.{peak_of, back_of, DepthFits}
+use Rattle.code_layout.specs.Layout.{Routine}
 use Rattle.code_layout.proofs.Work.{ahead, unfinished, Placed, Stands, Loops, loops_before, stands_before, stands_to, back, opens, Frames, Meets}
 use Rattle.code_layout.proofs.Machine.{Laws}
 use Rattle.code_layout.proofs.Steps.{Follows, AllStand, applies, number_follows, word_follows, jump_follows, call_follows, true_end_follows, flag_follows}
@@ -28,7 +29,7 @@ use Rattle.code_layout.proofs.BodyEnds.{body_ends}
 use Rattle.code_layout.proofs.LoopSteps.{do_follows, turn_follows, leave_follows}
 use Rattle.code_layout.proofs.CaseSteps.{q_do_follows, of_follows, end_case_follows}
 
-module _ (laws : Laws) (p : SourceProgram) (code : List ℕ) (place : ℕ → ℕ) (size : length code ≡ p.data_start / 2) (all : AllStand laws p code place size) where
+module _ (laws : Laws) (p : SourceProgram) (code : List ℕ) (place : Routine → ℕ) (size : length code ≡ p.data_start / 2) (all : AllStand laws p code place size) where
   module _ (high return_high pc now : ℕ) (out : Option ℕ) (fs : List Frame) (world : World) (fits : IsWorld world) (starts : world.data_start ≡ p.data_start)
       (base data_above return_above : List (Option ℕ)) (frames : Frames code place p fs base) (due : unfinished fs ≤ now) where
     abbrev here : List Work → List Entry → List ℕ → State

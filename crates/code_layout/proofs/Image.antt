@@ -1,5 +1,5 @@
 -- The image of a program: its code, and where the machine and the source begin.
-use Rattle.std.proofs.Common.{◌≡◌, ℕ, zero, suc, ◌+◌, ◌-◌, ◌/◌, ◌<◌, ◌≤◌, Bool, true, false, ◌&&◌, List, [], ◌∷◌, ◌++◌, length, replicate, slice_index, Some, None, refl, ap, ◌∙◌, subst, length-append, arith}
+use Rattle.std.proofs.Common.{◌≡◌, ℕ, zero, suc, ◌+◌, ◌-◌, ◌/◌, ◌<◌, ◌≤◌, Bool, true, false, ◌&&◌, List, [], ◌∷◌, ◌++◌, length, replicate, slice_index, Some, None, refl, ap, ◌∙◌, subst, append_assoc, length-append, arith}
 use Rattle.std.specs.Prelude.{slice_index_or}
 use Rattle.std.specs.List.{list_all}
 use Rattle.std.proofs.lemmas.List.{length-replicate}
@@ -21,14 +21,14 @@ use Rattle.word_table.specs.declared.word.Word.TheVariants.{Go, TypeOut}
 use Rattle.word_laws.specs.Control.{HoldsInstruction, halt_cells}
 use Rattle.word_laws.specs.Standing.{standing_as, StandIn, machine_at}
 use Rattle.code_layout.specs.Layout.{Routine, Definition, Library, Executing, Aborting, Leaving, type_routine, return_cell, reaches_end, cell_if, size, body_size}
-use Rattle.code_layout.specs.Layout.{nodes_cells, body_cells, bodies_cells, begins_at, bodies_size, execute_cells, abort_cells, tokens_cells, token_size, tokens_size, leaving_cells, leaving_size}
-use Rattle.code_layout.specs.Layout.{token_jumps, library_place, execute_place, abort_place, first_place, tokens_place, leaving_place, routine_place, laid_out}
+use Rattle.code_layout.specs.Layout.{nodes_cells, body_cells, bodies_cells, begins_at, bodies_size, execute_cells, abort_cells, tokens_cells, token_size, tokens_size, go_cells, leaving_cells, leaving_size}
+use Rattle.code_layout.specs.Layout.{token_jumps, library_place, execute_place, abort_place, first_place, tokens_place, leaving_place, routine_place, header, laid_out}
 use Rattle.code_layout.specs.Numbering.{library_number}
 use Rattle.forth_program.specs.SourceTokens.{tokens_of, all_tokens}
 use Rattle.code_layout.specs.Built.{is_laid_out, IsBuilt}
 use Rattle.code_layout.specs.Agreement.{AreBytes, code_of}
 use Rattle.code_layout.proofs.Routines.{IsRoutine, IsAborter}
-use Rattle.code_layout.proofs.Work.{Returns, IsExecutor, IsLeaver, Stands, stands_before}
+use Rattle.code_layout.proofs.Work.{Returns, IsExecutor, Stands, stands_before}
 use Rattle.code_layout.proofs.Machine.{Laws, both}
 use Rattle.code_layout.proofs.Steps.{AllStand}
 use Rattle.code_layout.proofs.LaidCode.{decode_call, size_is, body_size_is, cut, holds_if, all_placed, tokens_stand, tokens_size_is, leaving_size_is}
@@ -111,14 +111,14 @@ module _ (data_start : ℕ) (code : List ℕ) (place : Routine → ℕ) where
 
 module _ (code : List ℕ) (place : Routine → ℕ) where
   module _ (p : SourceProgram) (executes : Bool) (words : ℕ) (routine : (word : Word) (number : ℕ) → library_number word ≡ Some number → number < words → IsRoutine p.data_start code word (place (Library number)))
-      (executor : executes ≡ true → IsExecutor code (λ d. place (Definition d)) p (place Executing)) (aborter : executes ≡ true → 34 < words → IsAborter p.data_start code (place Aborting)) (low : (r : Routine) → place r < 8192)
-      (test : Node → Bool) (laid_by : (node : Node) → test node ≡ true → is_laid_out executes words (length p.bodies) node ≡ true) (leaver : test (Plain Go) ≡ true → IsLeaver code (λ d. place (Definition d)) p (place Leaving)) where
+      (executor : executes ≡ true → IsExecutor code place p (place Executing)) (aborter : executes ≡ true → 34 < words → IsAborter p.data_start code (place Aborting)) (low : (r : Routine) → place r < 8192)
+      (test : Node → Bool) (laid_by : (node : Node) → test node ≡ true → is_laid_out executes words (length p.bodies) node ≡ true) (goes : test (Plain Go) ≡ true → has_no_go p ≡ false) where
     -- a body whose code stands is laid out as work
     pub body_stands : (at : ℕ) (body : Nodes) → BodyCode p.data_start code place at body → everywhere test body ≡ true → leaves_fit false body ≡ true → tokens_of body ≤ p.source_tokens →
-        Stands code (λ d. place (Definition d)) p None at (before body [])
+        Stands code place p None at (before body [])
     body_stands at body b items leaves few =
-        stands_before code (λ d. place (Definition d)) p body None at [] (Returns code (λ d. place (Definition d)) p) (λ q k. k)
-        (all_placed code place p executes words routine executor aborter low test laid_by leaver body true false None 0 at (Returns code (λ d. place (Definition d)) p)
+        stands_before code place p body None at [] (Returns code place p) (λ q k. k)
+        (all_placed code place p executes words routine executor aborter low test laid_by goes body true false None 0 at (Returns code place p)
         (items, leaves) (λ e. absurd (let f : false ≡ true = e in cc)) (omega arith) b.cells_stand b.low b.returns) (omega (arith, few))
 
 -- what holds of all bodies holds of one
@@ -148,15 +148,15 @@ jumps_length place at (node ∷ tokens) = ap suc (jumps_length place (at + token
 
 -- ---- the image
 
+regrouped : (a b c d e f g h : List ℕ) → a ++ (b ++ (c ++ (d ++ (e ++ (f ++ (g ++ h)))))) ≡ (a ++ (b ++ (c ++ (d ++ (e ++ (f ++ g)))))) ++ h
+regrouped a b c d e f g h = simp (append_assoc) refl
+
 pub filled_length : (n : ℕ) (cells : List ℕ) → length cells ≤ n → length (filled n cells) ≡ n
 filled_length n cells few = simp (length-append, length-replicate) (omega arith)
 
 module _ (laws : Laws) (library : List Nodes) (p : SourceProgram) (built : IsBuilt library p) where
   abbrev place : Routine → ℕ
   place = routine_place library p
-
-  abbrev pub definitions : ℕ → ℕ
-  definitions d = routine_place library p (Definition d)
 
   pub code_size : length (code_of library p) ≡ p.data_start / 2
   code_size = filled_length (p.data_start / 2) (laid_out library p).cells built.code_fits
@@ -190,8 +190,9 @@ module _ (laws : Laws) (library : List Nodes) (p : SourceProgram) (built : IsBui
   abbrev of_leaving : List ℕ
   of_leaving = leaving_cells (has_no_go p)
 
-  last : ℕ
-  last = length (laid_out library p).cells
+  -- all cells but those of GO
+  abbrev pub front : List ℕ
+  front = header (routine_place library p (Definition p.main_body)) ++ (jumps ++ (of_library ++ (of_execute ++ (of_abort ++ (of_program ++ of_tokens)))))
 
   short : tokens_place library p + length (tokens_cells p.data_start (routine_place library p) p.tokens) + leaving_size (has_no_go p) ≤ 8000
   short =
@@ -218,120 +219,142 @@ module _ (laws : Laws) (library : List Nodes) (p : SourceProgram) (built : IsBui
   low Aborting = let h = short in omega arith
   low Leaving = let h = short in omega (arith, tokens_size_is p.data_start (routine_place library p) p.tokens)
 
-  image_stands : StandIn (code_of library p) 0 (laid_out library p).cells (0 + length (laid_out library p).cells)
-  image_stands = let few = built.code_fits in let most = built.data_start.at_most in laws.cells_stand [] (laid_out library p).cells (replicate (p.data_start / 2 - length (laid_out library p).cells) 0) (omega (arith, few, most))
+  front_size : length front ≡ leaving_place library p
+  front_size =
+      omega (
+        arith,
+        length-append jumps (of_library ++ (of_execute ++ (of_abort ++ (of_program ++ of_tokens)))),
+        length-append of_library (of_execute ++ (of_abort ++ (of_program ++ of_tokens))),
+        length-append of_program of_tokens,
+        jumps_length (routine_place library p) (tokens_place library p) p.tokens,
+        bodies_size_is p.data_start (routine_place library p) (library_place p) library,
+        bodies_size_is p.data_start (routine_place library p) (first_place library p) p.bodies,
+        tokens_size_is p.data_start (routine_place library p) p.tokens,
+      )
 
-  pub main_called : HoldsInstruction (code_of library p) 0 (CallTo (definitions p.main_body))
-  main_called = (ap decoded image_stands.0 ∙ decode_call (definitions p.main_body) (low (Definition p.main_body)), image_stands.1)
-
-  pub halt_stands : StandIn (code_of library p) 1 halt_cells 4
-  halt_stands = let h = image_stands.2 in (h.0, h.1, (h.2.0, h.2.1, (h.2.2.0, h.2.2.1, refl)))
+  all_parts : (laid_out library p).cells ≡ front ++ of_leaving
+  all_parts = regrouped (header (routine_place library p (Definition p.main_body))) jumps of_library of_execute of_abort of_program of_tokens of_leaving
 
   abbrev end : ℕ
   end = 0 + length (laid_out library p).cells
 
-  -- the parts of the image one after the other
-  pub jumps_stand : StandIn (code_of library p) 8 jumps (library_place p) × StandIn (code_of library p) (library_place p) (of_library ++ (of_execute ++ (of_abort ++ (of_program ++ (of_tokens ++ of_leaving))))) end
-  jumps_stand =
+  image_stands : StandIn (code_of library p) 0 (laid_out library p).cells end
+  image_stands = let few = built.code_fits in let most = built.data_start.at_most in laws.cells_stand [] (laid_out library p).cells (replicate (p.data_start / 2 - length (laid_out library p).cells) 0) (omega (arith, few, most))
+
+  -- and then the code of GO, where it is used
+  parts_stand : StandIn (code_of library p) 0 front (0 + leaving_place library p) × StandIn (code_of library p) (0 + leaving_place library p) of_leaving end
+  parts_stand =
       let h = short in
-      cut (code_of library p) 8 (length p.tokens) jumps (of_library ++ (of_execute ++ (of_abort ++ (of_program ++ (of_tokens ++ of_leaving))))) end
-      (jumps_length (routine_place library p) (tokens_place library p) p.tokens) (omega arith) image_stands.2.2.2.2.2.2.2.2
+      cut (code_of library p) 0 (leaving_place library p) front of_leaving end front_size (omega (arith, h, tokens_size_is p.data_start (routine_place library p) p.tokens))
+      (subst (λ cells. StandIn (code_of library p) 0 cells end) all_parts image_stands)
 
-  library_stands : StandIn (code_of library p) (library_place p) of_library (execute_place library p) × StandIn (code_of library p) (execute_place library p) (of_execute ++ (of_abort ++ (of_program ++ (of_tokens ++ of_leaving)))) end
-  library_stands =
-      let h = short in
-      cut (code_of library p) (library_place p) (bodies_size library) of_library (of_execute ++ (of_abort ++ (of_program ++ (of_tokens ++ of_leaving)))) end
-      (bodies_size_is p.data_start (routine_place library p) (library_place p) library) (omega arith) jumps_stand.1
+  pub front_stands : StandIn (code_of library p) 0 front (leaving_place library p)
+  front_stands = let e : 0 + leaving_place library p ≡ leaving_place library p = omega arith in subst (StandIn (code_of library p) 0 front) e parts_stand.0
 
-  pub execute_stands : StandIn (code_of library p) (execute_place library p) of_execute (abort_place library p) × StandIn (code_of library p) (abort_place library p) (of_abort ++ (of_program ++ (of_tokens ++ of_leaving))) end
-  execute_stands = let h = short in cut (code_of library p) (execute_place library p) 15 of_execute (of_abort ++ (of_program ++ (of_tokens ++ of_leaving))) end refl (omega arith) library_stands.1
-
-  pub abort_stands : StandIn (code_of library p) (abort_place library p) of_abort (first_place library p) × StandIn (code_of library p) (first_place library p) (of_program ++ (of_tokens ++ of_leaving)) end
-  abort_stands = let h = short in cut (code_of library p) (abort_place library p) 15 of_abort (of_program ++ (of_tokens ++ of_leaving)) end refl (omega arith) execute_stands.1
-
-  pub program_stands : StandIn (code_of library p) (first_place library p) of_program (tokens_place library p) × StandIn (code_of library p) (tokens_place library p) (of_tokens ++ of_leaving) end
-  program_stands =
-      let h = short in
-      cut (code_of library p) (first_place library p) (bodies_size p.bodies) of_program (of_tokens ++ of_leaving) end (bodies_size_is p.data_start (routine_place library p) (first_place library p) p.bodies) (omega arith) abort_stands.1
-
-  token_code_stands : StandIn (code_of library p) (tokens_place library p) of_tokens (leaving_place library p) × StandIn (code_of library p) (leaving_place library p) of_leaving end
-  token_code_stands =
-      let h = short in
-      let size = tokens_size_is p.data_start (routine_place library p) p.tokens in
-      cut (code_of library p) (tokens_place library p) (tokens_size p.tokens) of_tokens of_leaving end size (omega (arith, h, size)) program_stands.1
-
-  -- the code of GO, where some body has it
-  leaves : has_no_go p ≡ false → IsLeaver (code_of library p) definitions p (leaving_place library p)
+  -- the code of GO takes the top cell, and goes on where it tells
+  pub leaves : has_no_go p ≡ false → StandIn (code_of library p) (leaving_place library p) (go_cells) end
   leaves used =
-      let h = subst (λ lacking. StandIn (code_of library p) (leaving_place library p) (leaving_cells lacking) end) used token_code_stands.1 in
-      (h.0, h.1, (ap decoded h.2.0, h.2.1))
+      let e : 0 + leaving_place library p ≡ leaving_place library p = omega arith in
+      subst (λ lacking. StandIn (code_of library p) (leaving_place library p) (leaving_cells lacking) end) used (subst (λ at. StandIn (code_of library p) at of_leaving end) e parts_stand.1)
 
-  pub library_code : (number : ℕ) → number < length library → BodyCode p.data_start (code_of library p) (routine_place library p) (routine_place library p (Library number)) (slice_index_or library number Empty)
-  library_code number lt =
-      let few =
-      short in
-      codes p.data_start (code_of library p) (routine_place library p) (library_place p) (execute_place library p) library library_stands.0
-      (omega (arith, bodies_size_is p.data_start (routine_place library p) (library_place p) library)) number lt
+  -- any code that begins with all the other cells
+  module _ (code : List ℕ) (size : length code ≡ p.data_start / 2) (starts_with : StandIn code 0 front (leaving_place library p)) where
+    pub main_called : HoldsInstruction code 0 (CallTo (routine_place library p (Definition p.main_body)))
+    main_called = (ap decoded starts_with.0 ∙ decode_call (routine_place library p (Definition p.main_body)) (low (Definition p.main_body)), starts_with.1)
 
-  pub program_code : (d : ℕ) → d < length p.bodies → BodyCode p.data_start (code_of library p) (routine_place library p) (definitions d) (slice_index_or p.bodies d Empty)
-  program_code d lt =
-      let few = short in
-      codes p.data_start (code_of library p) (routine_place library p) (first_place library p) (tokens_place library p) p.bodies program_stands.0
-      (omega (arith, bodies_size_is p.data_start (routine_place library p) (first_place library p) p.bodies)) d lt
+    pub halt_stands : StandIn code 1 halt_cells 4
+    halt_stands = let h = starts_with.2 in (h.0, h.1, (h.2.0, h.2.1, (h.2.2.0, h.2.2.1, refl)))
 
-  -- the code of ABORT" does what it does, where TYPE stands
-  aborts :
-      ((word : Word) (number : ℕ) → library_number word ≡ Some number → number < length library →
-      IsRoutine p.data_start (code_of library p) word (routine_place library p (Library number))) → 34 < length library →
-      IsAborter p.data_start (code_of library p) (routine_place library p Aborting)
-  aborts routine some =
-      let h = short in
-      is_aborter laws p (code_of library p) definitions code_size (abort_place library p) (routine_place library p type_routine) (first_place library p) abort_stands.0 (omega arith) (low type_routine) (routine TypeOut 34 refl some)
+    -- the parts of the image one after the other
+    pub jumps_stand : StandIn code 8 jumps (library_place p) × StandIn code (library_place p) (of_library ++ (of_execute ++ (of_abort ++ (of_program ++ of_tokens)))) (leaving_place library p)
+    jumps_stand =
+        let h = short in
+        cut code 8 (length p.tokens) jumps (of_library ++ (of_execute ++ (of_abort ++ (of_program ++ of_tokens)))) (leaving_place library p)
+        (jumps_length (routine_place library p) (tokens_place library p) p.tokens) (omega arith) starts_with.2.2.2.2.2.2.2.2
 
-  -- and that of EXECUTE, where each token's jump leads to its code
-  executes :
-      ((word : Word) (number : ℕ) → library_number word ≡ Some number → number < length library →
-      IsRoutine p.data_start (code_of library p) word (routine_place library p (Library number))) →
-      IsExecutor (code_of library p) definitions p (routine_place library p Executing)
-  executes routine =
-      let h = short in
-      is_executor laws p (code_of library p) definitions code_size (execute_place library p) (length p.tokens) (abort_place library p) execute_stands.0 (omega arith) (omega arith) refl
-      (tokens_stand (code_of library p) (routine_place library p) p false (length library) routine (λ e. absurd (let f : false ≡ true = e in cc))
-      (λ e. absurd (let f : false ≡ true = e in cc)) low (is_laid_out false (length library) (length p.bodies)) (λ node e. e) (λ e. absurd (let f : false ≡ true = e in cc)) p.tokens 8 (tokens_place library p) (library_place p)
-      (leaving_place library p) built.token_items jumps_stand.0 token_code_stands.0 (omega arith) (omega arith))
+    library_stands : StandIn code (library_place p) of_library (execute_place library p) × StandIn code (execute_place library p) (of_execute ++ (of_abort ++ (of_program ++ of_tokens))) (leaving_place library p)
+    library_stands =
+        let h = short in
+        cut code (library_place p) (bodies_size library) of_library (of_execute ++ (of_abort ++ (of_program ++ of_tokens))) (leaving_place library p)
+        (bodies_size_is p.data_start (routine_place library p) (library_place p) library) (omega arith) jumps_stand.1
 
-  abbrev Routines : Type 0
-  Routines = (word : Word) (number : ℕ) → library_number word ≡ Some number → number < length library → IsRoutine p.data_start (code_of library p) word (routine_place library p (Library number))
+    pub execute_stands : StandIn code (execute_place library p) of_execute (abort_place library p) × StandIn code (abort_place library p) (of_abort ++ (of_program ++ of_tokens)) (leaving_place library p)
+    execute_stands = let h = short in cut code (execute_place library p) 15 of_execute (of_abort ++ (of_program ++ of_tokens)) (leaving_place library p) refl (omega arith) library_stands.1
 
-  -- what is asked of the items of definitions: where no body has GO, also that they are not GO
-  abbrev laid : Node → Bool
-  laid = is_laid_out true (length library) (length p.bodies)
+    pub abort_stands : StandIn code (abort_place library p) of_abort (first_place library p) × StandIn code (first_place library p) (of_program ++ of_tokens) (leaving_place library p)
+    abort_stands = let h = short in cut code (abort_place library p) 15 of_abort (of_program ++ of_tokens) (leaving_place library p) refl (omega arith) execute_stands.1
 
-  abbrev test_by : Bool → Node → Bool
-  test_by true node = laid node && is_not_go node
-  test_by false node = laid node
+    pub program_stands : StandIn code (first_place library p) of_program (tokens_place library p) × StandIn code (tokens_place library p) of_tokens (leaving_place library p)
+    program_stands =
+        let h = short in
+        cut code (first_place library p) (bodies_size p.bodies) of_program of_tokens (leaving_place library p) (bodies_size_is p.data_start (routine_place library p) (first_place library p) p.bodies) (omega arith) abort_stands.1
 
-  test_laid : (lacking : Bool) (node : Node) → test_by lacking node ≡ true → laid node ≡ true
-  test_laid true node e = (both (laid node) (is_not_go node) e).0
-  test_laid false node e = e
+    pub library_code : (number : ℕ) → number < length library → BodyCode p.data_start code (routine_place library p) (routine_place library p (Library number)) (slice_index_or library number Empty)
+    library_code number lt =
+        let few =
+        short in
+        codes p.data_start code (routine_place library p) (library_place p) (execute_place library p) library library_stands.0
+        (omega (arith, bodies_size_is p.data_start (routine_place library p) (library_place p) library)) number lt
 
-  test_leaves : (lacking : Bool) → has_no_go p ≡ lacking → test_by lacking (Plain Go) ≡ true → IsLeaver (code_of library p) definitions p (leaving_place library p)
-  test_leaves true e f = absurd (let g = (both (laid (Plain Go)) (is_not_go (Plain Go)) f).1 in let h : false ≡ true = g in cc)
-  test_leaves false e f = leaves e
+    pub program_code : (d : ℕ) → d < length p.bodies → BodyCode p.data_start code (routine_place library p) (routine_place library p (Definition d)) (slice_index_or p.bodies d Empty)
+    program_code d lt =
+        let few = short in
+        codes p.data_start code (routine_place library p) (first_place library p) (tokens_place library p) p.bodies program_stands.0
+        (omega (arith, bodies_size_is p.data_start (routine_place library p) (first_place library p) p.bodies)) d lt
 
-  tested : (lacking : Bool) → has_no_go p ≡ lacking → (d : ℕ) → d < length p.bodies → everywhere (test_by lacking) (slice_index_or p.bodies d Empty) ≡ true
-  tested true e d lt = everywhere_both laid is_not_go (slice_index_or p.bodies d Empty) (test_of (everywhere laid) p.bodies d built.items lt) (test_of (everywhere is_not_go) p.bodies d e lt)
-  tested false e d lt = test_of (everywhere laid) p.bodies d built.items lt
+    -- the code of ABORT" does what it does, where TYPE stands
+    aborts :
+        ((word : Word) (number : ℕ) → library_number word ≡ Some number → number < length library →
+        IsRoutine p.data_start code word (routine_place library p (Library number))) → 34 < length library →
+        IsAborter p.data_start code (routine_place library p Aborting)
+    aborts routine some =
+        let h = short in
+        is_aborter laws p code (routine_place library p) size (abort_place library p) (routine_place library p type_routine) (first_place library p) abort_stands.0 (omega arith) (low type_routine) (routine TypeOut 34 refl some)
 
-  -- every definition stands, where the library's routines do
-  stand_by : (lacking : Bool) → has_no_go p ≡ lacking → Routines → AllStand laws p (code_of library p) definitions code_size
-  stand_by lacking e routine = record {
-    halt = halt_stands;
-    bodies = λ d lt.
-        body_stands (code_of library p) (routine_place library p) p true (length library) routine (λ e. executes routine) (λ e. aborts routine) low (test_by lacking) (test_laid lacking) (test_leaves lacking e) (definitions d)
-        (slice_index_or p.bodies d Empty) (program_code d lt) (tested lacking e d lt) (test_of (leaves_fit false) p.bodies d built.leaves_in_loops lt)
-        (let counted = built.tokens_counted in omega (arith, counted, tokens_within p.bodies d lt));
-  }
+    -- and that of EXECUTE, where each token's jump leads to its code
+    executes :
+        ((word : Word) (number : ℕ) → library_number word ≡ Some number → number < length library →
+        IsRoutine p.data_start code word (routine_place library p (Library number))) →
+        IsExecutor code (routine_place library p) p (routine_place library p Executing)
+    executes routine =
+        let h = short in
+        is_executor laws p code (routine_place library p) size (execute_place library p) (length p.tokens) (abort_place library p) execute_stands.0 (omega arith) (omega arith) refl
+        (tokens_stand code (routine_place library p) p false (length library) routine (λ e. absurd (let f : false ≡ true = e in cc))
+        (λ e. absurd (let f : false ≡ true = e in cc)) low (is_laid_out false (length library) (length p.bodies)) (λ node e. e) (λ e. absurd (let f : false ≡ true = e in cc)) p.tokens 8 (tokens_place library p) (library_place p)
+        (leaving_place library p) built.token_items jumps_stand.0 program_stands.1 (omega arith) (omega arith))
 
-  pub all_stand : Routines → AllStand laws p (code_of library p) definitions code_size
-  all_stand routine = stand_by (has_no_go p) refl routine
+    abbrev Routines : Type 0
+    Routines = (word : Word) (number : ℕ) → library_number word ≡ Some number → number < length library → IsRoutine p.data_start code word (routine_place library p (Library number))
+
+    -- what is asked of the items of definitions: where no body has GO, also that they are not GO
+    abbrev laid : Node → Bool
+    laid = is_laid_out true (length library) (length p.bodies)
+
+    abbrev test_by : Bool → Node → Bool
+    test_by true node = laid node && is_not_go node
+    test_by false node = laid node
+
+    test_laid : (lacking : Bool) (node : Node) → test_by lacking node ≡ true → laid node ≡ true
+    test_laid true node e = (both (laid node) (is_not_go node) e).0
+    test_laid false node e = e
+
+    test_goes : (lacking : Bool) → has_no_go p ≡ lacking → test_by lacking (Plain Go) ≡ true → has_no_go p ≡ false
+    test_goes true e f = absurd (let g = (both (laid (Plain Go)) (is_not_go (Plain Go)) f).1 in let h : false ≡ true = g in cc)
+    test_goes false e f = e
+
+    tested : (lacking : Bool) → has_no_go p ≡ lacking → (d : ℕ) → d < length p.bodies → everywhere (test_by lacking) (slice_index_or p.bodies d Empty) ≡ true
+    tested true e d lt = everywhere_both laid is_not_go (slice_index_or p.bodies d Empty) (test_of (everywhere laid) p.bodies d built.items lt) (test_of (everywhere is_not_go) p.bodies d e lt)
+    tested false e d lt = test_of (everywhere laid) p.bodies d built.items lt
+
+    -- every definition stands, where the library's routines do
+    stand_by : (lacking : Bool) → has_no_go p ≡ lacking → Routines → AllStand laws p code (routine_place library p) size
+    stand_by lacking e routine = record {
+      halt = halt_stands;
+      bodies = λ d lt.
+          body_stands code (routine_place library p) p true (length library) routine (λ e. executes routine) (λ e. aborts routine) low (test_by lacking) (test_laid lacking) (test_goes lacking e) (routine_place library p (Definition d))
+          (slice_index_or p.bodies d Empty) (program_code d lt) (tested lacking e d lt) (test_of (leaves_fit false) p.bodies d built.leaves_in_loops lt)
+          (let counted = built.tokens_counted in omega (arith, counted, tokens_within p.bodies d lt));
+    }
+
+    pub all_stand : Routines → AllStand laws p code (routine_place library p) size
+    all_stand routine = stand_by (has_no_go p) refl routine

@@ -16,7 +16,7 @@ use Rattle.word_table.specs.Table.{cells_of, cells_from}
 use Rattle.forth_program.specs.Tree.{Node, Nodes, Arms, Literal, Plain, Call, Child, Text, If, Until, While, Again, Do, QDo, Case, Leave, Exit, Empty, Then, NoArm, Arm}
 use Rattle.forth_program.specs.Tail.{is_tail}
 use Rattle.forth_program.specs.Program.{SourceProgram}
-use Rattle.forth_program.specs.Form.{may_be_token, everywhere, inside, in_arms, leaves_fit, leave_fits, arms_fit}
+use Rattle.forth_program.specs.Form.{may_be_token, everywhere, inside, in_arms, leaves_fit, leave_fits, arms_fit, has_no_go}
 use Rattle.word_laws.specs.Control.{HoldsInstruction}
 use Rattle.word_laws.specs.Numbers.{number_cells}
 use Rattle.word_laws.specs.Standing.{StandIn}
@@ -31,7 +31,7 @@ use Rattle.code_layout.specs.Layout.{others_place, else_cells, loop_code, arm_co
 use Rattle.code_layout.specs.Built.{word_is_laid_out, text_is_laid_out, is_laid_out, token_is_laid_out}
 use Rattle.code_layout.proofs.Machine.{both}
 use Rattle.code_layout.proofs.Routines.{IsRoutine, IsAborter}
-use Rattle.code_layout.proofs.Work.{Returns, TokenStands, IsExecutor, PlainStands, ExecuteStands, IsLeaver, GoStands, TextStands, TurnStands, CallStands, LoopStands, SkipStands, LastStands, OfStands, Placed, AllPlaced, ArmsPlaced}
+use Rattle.code_layout.proofs.Work.{Returns, TokenStands, IsExecutor, PlainStands, ExecuteStands, GoStands, TextStands, TurnStands, CallStands, LoopStands, SkipStands, LastStands, OfStands, Placed, AllPlaced, ArmsPlaced}
 
 pub decode_jump : (a : ℕ) → a < 8192 → decoded (jump_to a) ≡ Jump a
 decode_jump a h = grind (arith, nat_tests)
@@ -240,41 +240,37 @@ module _ (code : List ℕ) where
   holds_if false pc cell instruction next e h d = absurd (let f : false ≡ true = e in cc)
 
   module _ (place : Routine → ℕ) (p : SourceProgram) (executes : Bool) (words : ℕ) (routine : (word : Word) (number : ℕ) → library_number word ≡ Some number → number < words → IsRoutine p.data_start code word (place (Library number)))
-      (executor : executes ≡ true → IsExecutor code (λ d. place (Definition d)) p (place Executing)) (aborter : executes ≡ true → 34 < words → IsAborter p.data_start code (place Aborting)) (low : (r : Routine) → place r < 8192)
-      (test : Node → Bool) (laid_by : (node : Node) → test node ≡ true → is_laid_out executes words (length p.bodies) node ≡ true) (leaver : test (Plain Go) ≡ true → IsLeaver code (λ d. place (Definition d)) p (place Leaving)) where
-    -- where definitions begin
-    abbrev definitions : ℕ → ℕ
-    definitions d = place (Definition d)
-
+      (executor : executes ≡ true → IsExecutor code place p (place Executing)) (aborter : executes ≡ true → 34 < words → IsAborter p.data_start code (place Aborting)) (low : (r : Routine) → place r < 8192)
+      (test : Node → Bool) (laid_by : (node : Node) → test node ≡ true → is_laid_out executes words (length p.bodies) node ≡ true) (goes : test (Plain Go) ≡ true → has_no_go p ≡ false) where
     -- the cells of items to which code leads
     abbrev cells_at : ℕ → ℕ → Bool → Nodes → List ℕ
     cells_at out_at at tail nodes = nodes_cells p.data_start place out_at at tail true nodes
 
     call_stands : (tail : Bool) (r : Routine) (at : ℕ) (K : ℕ → Type 0) → StandIn code at (call_cell tail (place r) ∷ []) (at + 1) → at + 1 < 8192 →
-        (not tail ≡ true → K (at + 1)) → CallStands code definitions p tail at (place r) (K (following at))
+        (not tail ≡ true → K (at + 1)) → CallStands code place p tail at (place r) (K (following at))
     call_stands true r at K h n k = holds at (jump_to (place r)) (Jump (place r)) [] (at + 1) h (decode_jump (place r) (low r))
     call_stands false r at K h n k = (holds at (call_to (place r)) (CallTo (place r)) [] (at + 1) h (decode_call (place r) (low r)), subst K (sym (next_is at n)) (k refl))
 
     word_placed : (word : Word) (found : Option Routine) (tail : Bool) (at : ℕ) (K : ℕ → Type 0) → routine_of word ≡ found → test (Plain word) ≡ true →
         word_is_laid_out executes words found word ≡ true → StandIn code at (word_cells p.data_start place tail found word) (at + word_size found word) →
         at + word_size found word < 8192 →
-        (word_falls_through found tail ≡ true → K (at + word_size found word)) → PlainStands code definitions p tail at word K ⊎ (ExecuteStands code definitions p tail at word K ⊎ GoStands code definitions p tail at word K)
+        (word_falls_through found tail ≡ true → K (at + word_size found word)) → PlainStands code place p tail at word K ⊎ (ExecuteStands code place p tail at word K ⊎ GoStands code place p tail at word K)
     word_placed word None tail at K is may fit h n k = inl (inl (at + length (cells_of word), fit, h, k refl))
     word_placed word (Some (Library number)) tail at K is may fit h n k = inl (inr (place (Library number), call_stands tail (Library number) at K h n k, routine word number (number_of word number is) (let e = fit in grind (arith, nat_tests))))
     word_placed word (Some Executing) tail at K is may fit h n k = inr (inl (is_execute word is, place Executing, call_stands tail Executing at K h n k, executor fit))
-    word_placed word (Some Leaving) tail at K is may fit h n k = inr (inr (is_go word is, place Leaving, call_stands tail Leaving at K h n k, leaver (subst (λ w. test (Plain w) ≡ true) (is_go word is) may)))
+    word_placed word (Some Leaving) tail at K is may fit h n k = inr (inr (is_go word is, goes (subst (λ w. test (Plain w) ≡ true) (is_go word is) may), call_stands tail Leaving at K h n k))
     word_placed word (Some (Definition d)) tail at K is may fit h n k = absurd (let f : false ≡ true = fit in cc)
     word_placed word (Some Aborting) tail at K is may fit h n k = absurd (let f : false ≡ true = fit in cc)
 
     text_placed : (kind : TextKind) (tail : Bool) (at : ℕ) (K : ℕ → Type 0) → executes ≡ true → text_is_laid_out words kind ≡ true →
         StandIn code at (text_cells place tail kind) (at + text_size kind) → at + text_size kind < 8192 →
-        (text_falls_through kind tail ≡ true → K (at + text_size kind)) → TextStands code definitions p tail at kind K
+        (text_falls_through kind tail ≡ true → K (at + text_size kind)) → TextStands code place p tail at kind K
     text_placed text.Address tail at K may fit h n k = let e : at + 0 ≡ at = omega arith in subst K e (k refl)
     text_placed text.Print tail at K may fit h n k = (place (Library 34), call_stands tail (Library 34) at K h n k, routine TypeOut 34 refl (let e = fit in grind (arith, nat_tests)))
     text_placed text.Abort tail at K may fit h n k = (place Aborting, call_stands tail Aborting at K h n k, aborter may (let e = fit in grind (arith, nat_tests)))
 
     turn_stands : (plus : Bool) (at body_at out_at : ℕ) (more : List ℕ) (next : ℕ) → StandIn code at (turn_cells plus body_at out_at ++ more) next →
-        body_at < 8192 → out_at ≡ at + turn_size plus → out_at < 8192 → TurnStands code definitions p plus at body_at out_at
+        body_at < 8192 → out_at ≡ at + turn_size plus → out_at < 8192 → TurnStands code place p plus at body_at out_at
     turn_stands false at body_at out_at more next h lt e lt' =
         let c = cut at 5 loop_cells (branch_to out_at ∷ jump_to body_at ∷ more) next refl (omega (arith, e)) h in
         let j = onward (at + 5) (branch_to out_at) (jump_to body_at ∷ more) next (omega (arith, e)) c.1 in (
@@ -325,7 +321,7 @@ module _ (code : List ℕ) where
         length inner ≡ size false true body → StandIn code at (loop_code at body plus inner) last →
         last ≡ at + (8 + size false true body + turn_size plus + 4) → last < 8192 →
         (StandIn code (at + 8) inner (at + 8 + size false true body) → slice_index code (out_place at body plus) ≡ 0x6B8D →
-        Body (Some (out_place at body plus)) (at + 8) (λ e. e ≡ at + 8 + size false true body)) → K last → LoopStands code definitions p Body plus at K
+        Body (Some (out_place at body plus)) (at + 8) (λ e. e ≡ at + 8 + size false true body)) → K last → LoopStands code place p Body plus at K
     loop_stands Body body plus at last inner K e h end n body_stands k =
         let drop_at = out_place at body plus in
         let after = turn_cells plus (at + 8) (out_place at body plus) ++ out_cells in
@@ -346,7 +342,7 @@ module _ (code : List ℕ) where
 
     -- OVER OVER = and what follows it, where ?DO leaves its loop out or not
     skip_stands : (at loop_at end_at last : ℕ) (more : List ℕ) → StandIn code at (q_do_cells loop_at end_at ++ more) last → loop_at ≡ at + 7 → loop_at < 8192 →
-        end_at < 8192 → SkipStands code definitions p at loop_at end_at × StandIn code (at + 7) more last
+        end_at < 8192 → SkipStands code place p at loop_at end_at × StandIn code (at + 7) more last
     skip_stands at loop_at end_at last more h e lt lt' =
         let c = cut at 3 (0x6181 ∷ 0x6181 ∷ 0x6703 ∷ []) (branch_to loop_at ∷ 0x6103 ∷ 0x6103 ∷ jump_to end_at ∷ more) last refl (omega (arith, e)) h in
         let d = onward (at + 3) (branch_to loop_at) (0x6103 ∷ 0x6103 ∷ jump_to end_at ∷ more) last (omega (arith, e)) c.1 in
@@ -366,7 +362,7 @@ module _ (code : List ℕ) where
 
     -- OF
     of_stands : (at body_at other_at last : ℕ) (more : List ℕ) → StandIn code at (of_cells other_at ++ more) last → body_at ≡ at + 4 → body_at < 8192 →
-        other_at < 8192 → OfStands code definitions p at body_at other_at × StandIn code body_at more last
+        other_at < 8192 → OfStands code place p at body_at other_at × StandIn code body_at more last
     of_stands at body_at other_at last more h e lt lt' =
         let c = cut at 2 (0x6181 ∷ 0x6703 ∷ []) (branch_to other_at ∷ 0x6103 ∷ more) last refl (omega (arith, e)) h in
         let d = onward (at + 2) (branch_to other_at) (0x6103 ∷ more) last (omega (arith, e)) c.1 in
@@ -384,7 +380,7 @@ module _ (code : List ℕ) where
     mutual
       placed : (node : Node) (tail in_do : Bool) (out : Option ℕ) (out_at at : ℕ) (K : ℕ → Type 0) → Fits in_do node → (in_do ≡ true → out ≡ Some out_at) → out_at < 8192 →
           StandIn code at (node_cells p.data_start place out_at at tail true node) (at + node_size tail true node) → at + node_size tail true node < 8192 →
-          (falls_through tail node ≡ true → K (at + node_size tail true node)) → Placed code definitions p out at tail node K
+          (falls_through tail node ≡ true → K (at + node_size tail true node)) → Placed code place p out at tail node K
       placed (Literal value) tail in_do out out_at at K fit inner lt h n k = (at + length (number_cells value), (let e = laid_by (Literal value) fit.0 in grind (arith, nat_tests)), h, k refl)
       placed (Plain word) tail in_do out out_at at K fit inner lt h n k = word_placed word (routine_of word) tail at K refl fit.0 (laid_by (Plain word) fit.0) h n k
       placed (Call d) tail in_do out out_at at K fit inner lt h n k = ((let e = laid_by (Call d) fit.0 in grind (arith, nat_tests)), call_stands tail (Definition d) at K h n k)
@@ -434,7 +430,7 @@ module _ (code : List ℕ) where
             target,
             holds at (branch_to (else_place at tail first Empty)) (Branch (else_place at tail first Empty)) (cells_at out_at (at + 1) tail first ++ [])
                 (at + node_size tail true (If first Empty)) h (decode_branch (else_place at tail first Empty) (omega (arith, n))),
-            subst (λ x. AllPlaced code definitions p out x tail first K) (sym (next_is at (omega (arith, n)))) (all_placed first tail in_do out out_at (at + 1) K fits.0 inner lt c.0 (omega (arith, n)) (λ g. subst K e' k')),
+            subst (λ x. AllPlaced code place p out x tail first K) (sym (next_is at (omega (arith, n)))) (all_placed first tail in_do out out_at (at + 1) K fits.0 inner lt c.0 (omega (arith, n)) (λ g. subst K e' k')),
             subst K e k',
           )
       placed (If first (Then node rest)) tail in_do out out_at at K fit inner lt h n k =
@@ -454,7 +450,7 @@ module _ (code : List ℕ) where
           let k' : falls_through tail (If first (Then node rest)) ≡ true → K (else_place at tail first (Then node rest) + size tail true (Then node rest)) = λ g. subst K e (k g) in (
             second_at,
             holds at (branch_to second_at) (Branch second_at) (cells_at out_at (at + 1) tail first ++ (cell_if reached (jump_to target) ++ second)) last h (decode_branch second_at (omega (arith, n))),
-            subst (λ x. AllPlaced code definitions p out x tail first (λ e. (next : ℕ) × HoldsInstruction code e (Jump next) × K next)) (sym (next_is at (omega (arith, n))))
+            subst (λ x. AllPlaced code place p out x tail first (λ e. (next : ℕ) × HoldsInstruction code e (Jump next) × K next)) (sym (next_is at (omega (arith, n))))
                 (all_placed first tail in_do out out_at (at + 1) (λ e. (next : ℕ) × HoldsInstruction code e (Jump next) × K next) fits.0 inner lt c.0 (omega (arith, n))
                 (λ g. (
                   target,
@@ -493,7 +489,7 @@ module _ (code : List ℕ) where
             next = next;
             test = all_placed test false in_do out out_at at (λ x. x ≡ test_end) fits.0 inner lt c.0 (omega (arith, n)) (λ g. refl);
             branch = holds test_end (branch_to next) (Branch next) (body_cells ++ jump_to at ∷ []) last c.1 (decode_branch next (omega (arith, n)));
-            body = subst (λ x. AllPlaced code definitions p out x false body (λ y. y ≡ body_end)) (sym (next_is test_end (omega (arith, n))))
+            body = subst (λ x. AllPlaced code place p out x false body (λ y. y ≡ body_end)) (sym (next_is test_end (omega (arith, n))))
                 (all_placed body false in_do out out_at (while_place at test) (λ x. x ≡ body_end) fits.1 inner lt d.0 (omega (arith, n)) (λ g. refl));
             jump = holds body_end (jump_to at) (Jump at) [] last d.1 (decode_jump at (omega (arith, n)));
             onward = subst K e (k refl);
@@ -506,7 +502,7 @@ module _ (code : List ℕ) where
             holds end (jump_to at) (Jump at) [] (at + (size false true body + 1)) c.1 (decode_jump at (omega (arith, n))),
           )
       placed (Do body plus) tail in_do out out_at at K fit inner lt h n k =
-          loop_stands (λ o q L. AllPlaced code definitions p o q false body L) body plus at (at + node_size tail true (Do body plus))
+          loop_stands (λ o q L. AllPlaced code place p o q false body L) body plus at (at + node_size tail true (Do body plus))
           (cells_at (out_place at body plus) (at + 8) false body) K (size_is body p.data_start place (out_place at body plus) (at + 8) false true) h refl n
           (λ stands drop.
           all_placed body false true (Some (out_place at body plus)) (out_place at body plus) (at + 8) (λ x. x ≡ at + 8 + size false true body)
@@ -521,7 +517,7 @@ module _ (code : List ℕ) where
             end_at = end_at;
             skip = s.0;
             onward = subst K e (k refl);
-            loop = loop_stands (λ o q L. AllPlaced code definitions p o q false body L) body plus (at + 7) last body_code K (size_is body p.data_start place (out_place (at + 7) body plus) (at + 7 + 8) false true) s.1 (omega arith) n
+            loop = loop_stands (λ o q L. AllPlaced code place p o q false body L) body plus (at + 7) last body_code K (size_is body p.data_start place (out_place (at + 7) body plus) (at + 7 + 8) false true) s.1 (omega arith) n
                 (λ stands drop.
                 all_placed body false true (Some (out_place (at + 7) body plus)) (out_place (at + 7) body plus) (at + 7 + 8)
                 (λ x. x ≡ at + 7 + 8 + size false true body) (fit.1, fit.2) (λ t. refl) (omega (arith, n)) stands (omega (arith, n)) (λ g. refl))
@@ -539,7 +535,7 @@ module _ (code : List ℕ) where
           let c = cut at (arms_size tail arms) (arms_cells p.data_start place out_at at tail end_at arms) (rest_code ++ end_case_cells) last (arms_size_is arms p.data_start place out_at at tail end_at) (omega (arith, n)) h in
           let d = cut rest_at (size false true rest) rest_code end_case_cells last (size_is rest p.data_start place out_at rest_at false true) (omega (arith, n)) c.1 in
           arms_placed arms tail in_do out out_at at end_at K
-          (λ q. LastStands code definitions p (λ L. AllPlaced code definitions p out q false rest L) K) (items.0, leaves.0) inner lt c.0 (omega (arith, n)) (omega (arith, n)) (subst K e (k refl))
+          (λ q. LastStands code place p (λ L. AllPlaced code place p out q false rest L) K) (items.0, leaves.0) inner lt c.0 (omega (arith, n)) (omega (arith, n)) (subst K e (k refl))
           (record {
             drop_at = drop_at;
             next = last;
@@ -552,7 +548,7 @@ module _ (code : List ℕ) where
 
       pub all_placed : (nodes : Nodes) (tail in_do : Bool) (out : Option ℕ) (out_at at : ℕ) (K : ℕ → Type 0) → AllFit in_do nodes → (in_do ≡ true → out ≡ Some out_at) → out_at < 8192 →
           StandIn code at (nodes_cells p.data_start place out_at at tail true nodes) (at + size tail true nodes) → at + size tail true nodes < 8192 →
-          (reaches_end tail true nodes ≡ true → K (at + size tail true nodes)) → AllPlaced code definitions p out at tail nodes K
+          (reaches_end tail true nodes ≡ true → K (at + size tail true nodes)) → AllPlaced code place p out at tail nodes K
       all_placed Empty tail in_do out out_at at K fit inner lt h n k = let e : at + 0 ≡ at = omega arith in subst K e (k refl)
       all_placed (Then node rest) tail in_do out out_at at K fit inner lt h n k =
           let fits = list_fits in_do node rest fit in
@@ -569,12 +565,12 @@ module _ (code : List ℕ) where
           StandIn code middle (nodes_cells p.data_start place out_at middle tail reached rest) (middle + size tail reached rest)
           × (middle + size tail reached rest < 8192) × (reaches_end tail reached rest ≡ true → K (middle + size tail reached rest)) in
           let behind : Behind reached = (subst (StandIn code middle (nodes_cells p.data_start place out_at middle tail reached rest)) e c.1, omega (arith, n), λ g. subst K e (k g)) in
-          placed node here in_do out out_at at (λ q. AllPlaced code definitions p out q tail rest K) fits.0 inner lt c.0 (omega (arith, n))
+          placed node here in_do out out_at at (λ q. AllPlaced code place p out q tail rest K) fits.0 inner lt c.0 (omega (arith, n))
           (λ g. let b = subst Behind g behind in all_placed rest tail in_do out out_at middle K fits.1 inner lt b.0 b.1 b.2)
 
       arms_placed : (arms : Arms) (tail in_do : Bool) (out : Option ℕ) (out_at at end_at : ℕ) (K L : ℕ → Type 0) → ArmsFit in_do arms → (in_do ≡ true → out ≡ Some out_at) → out_at < 8192 →
           StandIn code at (arms_cells p.data_start place out_at at tail end_at arms) (at + arms_size tail arms) → at + arms_size tail arms < 8192 →
-          end_at < 8192 → K end_at → L (at + arms_size tail arms) → ArmsPlaced code definitions p out at tail arms K L
+          end_at < 8192 → K end_at → L (at + arms_size tail arms) → ArmsPlaced code place p out at tail arms K L
       arms_placed NoArm tail in_do out out_at at end_at K L fit inner lt h n low k l = let e : at + 0 ≡ at = omega arith in subst L e l
       arms_placed (Arm tests body others) tail in_do out out_at at end_at K L fit inner lt h n low k l =
           let fits = arm_fits in_do tests body others fit in
@@ -611,7 +607,7 @@ module _ (code : List ℕ) where
     -- that of a word, by its own cells or by its routine
     word_token_stands : (word : Word) (found : Option ℕ) (at : ℕ) → library_number word ≡ found → word_is_laid_out false words (numbered found) word ≡ true →
         StandIn code at (word_token_cells p.data_start found word) (at + word_token_size found word) → at + word_token_size found word < 8192 →
-        ((next : ℕ) × (stands_plain word ≡ true) × StandIn code (word_token_place place at found) (cells_from p.data_start word) next × Returns code definitions p next) ⊎ IsRoutine p.data_start code word (word_token_place place at found)
+        ((next : ℕ) × (stands_plain word ≡ true) × StandIn code (word_token_place place at found) (cells_from p.data_start word) next × Returns code place p next) ⊎ IsRoutine p.data_start code word (word_token_place place at found)
     word_token_stands word None at is fit h n =
         let c = cut at (length (cells_of word)) (cells_from p.data_start word) (return_cell ∷ []) (at + (length (cells_of word) + 1)) (from_size p.data_start word) (omega (arith, n)) h in
         inl (at + length (cells_of word), fit, c.0, holds (at + length (cells_of word)) return_cell (decoded 0x700C) [] (at + (length (cells_of word) + 1)) c.1 refl)
@@ -620,7 +616,7 @@ module _ (code : List ℕ) where
     -- the code of a token stands where it was laid
     token_stands : (node : Node) (at : ℕ) → token_is_laid_out words (length p.bodies) node ≡ true →
         StandIn code at (token_cells p.data_start place node) (at + token_size node) → at + token_size node < 8192 →
-        TokenStands code definitions p node (token_place place at node)
+        TokenStands code place p node (token_place place at node)
     token_stands (Literal value) at fit h n =
         let next = at + length (number_cells value) in
         let last = at + (length (number_cells value) + 1) in
@@ -666,7 +662,7 @@ module _ (code : List ℕ) where
     pub tokens_stand : (tokens : List Node) (jump_at at next next' : ℕ) → list_all (token_is_laid_out words (length p.bodies)) tokens ≡ true →
         StandIn code jump_at (token_jumps place at tokens) next → StandIn code at (tokens_cells p.data_start place tokens) next' →
         jump_at + length tokens < 8192 → at + length (tokens_cells p.data_start place tokens) < 8192 →
-        (k : ℕ) (node : Node) → slice_get tokens k ≡ Some node → (target : ℕ) × HoldsInstruction code (jump_at + k) (Jump target) × TokenStands code definitions p node target
+        (k : ℕ) (node : Node) → slice_get tokens k ≡ Some node → (target : ℕ) × HoldsInstruction code (jump_at + k) (Jump target) × TokenStands code place p node target
     tokens_stand [] jump_at at next next' fit j h n n' k node found = let f : None ≡ Some node = (sym (slice_get_past [] k (omega arith)) ∙ found) in cc
     tokens_stand (token ∷ tokens) jump_at at next next' fit j h n n' zero node found =
         let e : token ≡ node = cc in
@@ -678,7 +674,7 @@ module _ (code : List ℕ) where
           subst (λ q. HoldsInstruction code q (Jump (token_place place at token))) (sym same)
               (holds jump_at (jump_to (token_place place at token)) (Jump (token_place place at token)) (token_jumps place (at + token_size token) tokens) next
               j (decode_jump (token_place place at token) (token_place_low token at (omega arith)))),
-          subst (λ x. TokenStands code definitions p x (token_place place at token)) e (token_stands token at f.0 c.0 (omega (arith, n', len, token_size_is token p.data_start place))),
+          subst (λ x. TokenStands code place p x (token_place place at token)) e (token_stands token at f.0 c.0 (omega (arith, n', len, token_size_is token p.data_start place))),
         )
     tokens_stand (token ∷ tokens) jump_at at next next' fit j h n n' (suc k) node found =
         let len = length-append (token_cells p.data_start place token) (tokens_cells p.data_start place tokens) in

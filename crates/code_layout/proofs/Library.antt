@@ -1,5 +1,5 @@
 -- Every library word is done by its routine, the first words first.
-use Rattle.std.proofs.Common.{◌≡◌, ℕ, zero, suc, ◌+◌, ◌-◌, ◌<◌, ◌≤◌, inl, inr, true, false, List, [], ◌∷◌, ◌++◌, length, Option, Some, None, refl, sym, ap, ◌∙◌, subst, arith}
+use Rattle.std.proofs.Common.{◌≡◌, ℕ, zero, suc, ◌+◌, ◌-◌, ◌/◌, ◌<◌, ◌≤◌, inl, inr, true, false, List, [], ◌∷◌, ◌++◌, length, Option, Some, None, refl, sym, ap, ◌∙◌, subst, arith}
 use Rattle.std.specs.Prelude.{slice_index_or}
 use Rattle.j1_simulator.specs.Step.{Stop}
 use Rattle.j1_simulator.specs.OpenMachine.{open_storage}
@@ -15,23 +15,23 @@ use Rattle.forth_program.specs.Step.{before, first_work, on_cells}
 use Rattle.forth_program.specs.Run.{steps, end_of}
 use Rattle.word_laws.specs.Rings.{OpenConfiguration}
 use Rattle.forth_program.specs.Cells.{AreCells, AreEntries, IsWorld}
-use Rattle.word_laws.specs.Standing.{return_places, standing_at_depths, machine_end, machine_at}
+use Rattle.word_laws.specs.Standing.{return_places, standing_at_depths, machine_end, StandIn, machine_at}
 use Rattle.code_layout.specs.Numbering.{library_number}
-use Rattle.code_layout.specs.Layout.{Library, routine_place}
+use Rattle.code_layout.specs.Layout.{Routine, Library, leaving_place, routine_place}
 use Rattle.forth_program.specs.SourceTokens.{all_tokens}
 use Rattle.code_layout.specs.Built.{is_laid_out, IsBuilt}
 use Rattle.forth_program.specs.Heights.{entries_height, callers_height, return_height, peak_of, back_of, execute_back, StepsFit, DepthFits, DepthsFit}
 use Rattle.forth_program.specs.Price.{spent}
 use Rattle.code_layout.proofs.Deeper.{AllOwn, own_before, own_depth, own_execute, Busy, balanced, deeper_outcome, runs_deeper, IsDeeper, state_deeper}
 use Rattle.code_layout.specs.Library.{is_own, routine_price, body_begins, body_is_done, each_uses_earlier, IsLibrary, BodyMeans, LibraryMeans}
-use Rattle.code_layout.specs.Agreement.{code_of, Shows}
+use Rattle.code_layout.specs.Agreement.{Shows}
 use Rattle.code_layout.proofs.Machine.{Laws, both}
 use Rattle.code_layout.proofs.Routines.{places_below, Returned, Stopped, Answers, IsRoutine}
 use Rattle.code_layout.proofs.LibraryWords.{finds_cells, library_need, FewLeft, library_few}
 use Rattle.code_layout.proofs.Work.{places_height, ahead, Stands, loops_before, Meets}
 use Rattle.code_layout.proofs.Steps.{AllStand}
 use Rattle.code_layout.proofs.Runs.{strays, Reaches, StandsAs, StandsWhere, reaches}
-use Rattle.code_layout.proofs.Image.{code_size, definitions, low, halt_stands, library_code, body_stands, test_of, tokens_within}
+use Rattle.code_layout.proofs.Image.{front, low, halt_stands, library_code, body_stands, test_of, tokens_within}
 
 -- a body uses earlier words alone
 earlier_words : (from : ℕ) (bodies : List Nodes) (d : ℕ) → each_uses_earlier from bodies ≡ true → d < length bodies → everywhere (is_laid_out false (from + d) 0) (slice_index_or bodies d Empty) ≡ true
@@ -51,18 +51,16 @@ heights_join (Loop limit index ∷ es) more = omega (arith, heights_join es more
 abbrev pub library_program : ℕ → List Nodes → SourceProgram
 library_program data_start library = record { names = []; bodies = []; main_body = 0; tokens = []; data_start = data_start; first_space = []; source_tokens = all_tokens library }
 
-module _ (laws : Laws) (library : List Nodes) (p : SourceProgram) (built : IsBuilt library p) (form : IsLibrary library) (means : LibraryMeans library) where
-  abbrev code : List ℕ
-  code = code_of library p
-
-  abbrev places : ℕ → ℕ
-  places = definitions laws library p built
+module _ (laws : Laws) (library : List Nodes) (p : SourceProgram) (built : IsBuilt library p) (form : IsLibrary library) (means : LibraryMeans library)
+    (code : List ℕ) (size : length code ≡ p.data_start / 2) (starts_with : StandIn code 0 (front laws library p built) (leaving_place library p)) where
+  abbrev places : Routine → ℕ
+  places = routine_place library p
 
   abbrev alone : SourceProgram
   alone = library_program p.data_start library
 
-  none_called : AllStand laws alone code places (code_size laws library p built)
-  none_called = record { halt = halt_stands laws library p built; bodies = λ d lt. absurd (omega arith) }
+  none_called : AllStand laws alone code places size
+  none_called = record { halt = halt_stands laws library p built code size starts_with; bodies = λ d lt. absurd (omega arith) }
 
   module _ (word : Word) (number : ℕ) (is : library_number word ≡ Some number) (lt : number < length library)
       (items : everywhere is_own (slice_index_or library number Empty) ≡ true)
@@ -135,16 +133,16 @@ module _ (laws : Laws) (library : List Nodes) (p : SourceProgram) (built : IsBui
 
       runs : (o : Reply (List ℕ)) → meaning word c w ≡ o → balanced (on_cells o (body_is_done c w)) ≡ true →
           strays (deeper_outcome es (on_cells o (body_is_done c w))) ≡ false → (m : BodyMeans word body alone c w) →
-          Reaches laws alone code places (code_size laws library p built) none_called m.count 2 (ahead (before body []) + 0) start there
+          Reaches laws alone code places size none_called m.count 2 (ahead (before body []) + 0) start there
       runs o e balances sound m =
-          reaches laws alone code places (code_size laws library p built) none_called m.count 2 at None start (Some 2 ∷ []) data_above return_above start_meets (ap strays (does o e balances m) ∙ sound) (depths m (balance o e balances m))
+          reaches laws alone code places size none_called m.count 2 at None start (Some 2 ∷ []) data_above return_above start_meets (ap strays (does o e balances m) ∙ sound) (depths m (balance o e balances m))
 
       meant : (o : Reply (List ℕ)) → meaning word c w ≡ o → finds_cells o ≡ true → BodyMeans word body alone c w
       meant o e sound = means word number is lt alone c w (library_need word number c w is (ap finds_cells e ∙ sound)) fc fits
 
       -- no item of a token is left
-      not_in_hand : (c' : List ℕ) (w' : World) (v : OpenConfiguration) → StandsWhere laws alone code places (code_size laws library p built) none_called v (Goes (record { work = []; entries = es; callers = []; cells = c'; world = w' })) →
-          StandsAs laws alone code places (code_size laws library p built) none_called v (record { work = []; entries = es; callers = []; cells = c'; world = w' })
+      not_in_hand : (c' : List ℕ) (w' : World) (v : OpenConfiguration) → StandsWhere laws alone code places size none_called v (Goes (record { work = []; entries = es; callers = []; cells = c'; world = w' })) →
+          StandsAs laws alone code places size none_called v (record { work = []; entries = es; callers = []; cells = c'; world = w' })
       not_in_hand c' w' v (inl stood) = stood
       not_in_hand c' w' v (inr hand) = let f : [] ≡ Todo hand.0 ∷ hand.1 = hand.2 in cc
 
@@ -155,7 +153,7 @@ module _ (laws : Laws) (library : List Nodes) (p : SourceProgram) (built : IsBui
           let balances = balance (Gives c' w') e refl m in
           let leads = does (Gives c' w') e refl m in
           let same = price m balances in
-          let stood = not_in_hand c' w' (run open_storage p.data_start r.count there) (subst (StandsWhere laws alone code places (code_size laws library p built) none_called (run open_storage p.data_start r.count there)) leads r.stands) in
+          let stood = not_in_hand c' w' (run open_storage p.data_start r.count there) (subst (StandsWhere laws alone code places size none_called (run open_storage p.data_start r.count there)) leads r.stands) in
           let paid = r.paid (ap end_of leads) in
           let least = m.within_price in
           record {
@@ -224,7 +222,7 @@ module _ (laws : Laws) (library : List Nodes) (p : SourceProgram) (built : IsBui
       (body_stands code (routine_place library p) alone false number (λ word' number' is' below. routines_below n word' number' is' (omega arith) (omega arith))
       (λ e. absurd (let f : false ≡ true = e in cc)) (λ e. absurd (let f : false ≡ true = e in cc)) (low laws library p built)
       (is_laid_out false number 0) (λ node e. e) (λ e. absurd (let f : false ≡ true = e in cc)) (routine_place library p (Library number)) (slice_index_or library number Empty)
-      (library_code laws library p built number lt')
+      (library_code laws library p built code size starts_with number lt')
       (subst (λ n. everywhere (is_laid_out false n 0) (slice_index_or library number Empty) ≡ true) from_zero
       (earlier_words 0 library number form.items lt')) (test_of (leaves_fit false) library number form.leaves_in_loops lt')
       (tokens_within library number lt'))

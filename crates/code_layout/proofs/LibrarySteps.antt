@@ -20,6 +20,7 @@ use Rattle.word_laws.specs.Bounds.{StaysWithin}
 use Rattle.forth_program.specs.Cells.{AreCells, AreEntries, IsWorld}
 use Rattle.word_laws.specs.Control.{HoldsInstruction}
 use Rattle.word_laws.specs.Standing.{return_places, standing_at_depths, standing_as, EndedIn, machine_at}
+use Rattle.code_layout.specs.Layout.{Routine}
 use Rattle.code_layout.specs.Numbering.{library_number}
 use Rattle.code_layout.specs.Library.{routine_price}
 use Rattle.code_layout.proofs.Machine.{Laws, Runs, narrower, wider, runs_then, runs_one}
@@ -60,7 +61,7 @@ entries_join [] more f g = g
 entries_join (Cell value ∷ es) more f g = (f.0, entries_join es more f.1 g)
 entries_join (Loop limit index ∷ es) more f g = (f.0, f.1, entries_join es more f.2 g)
 
-module _ (laws : Laws) (p : SourceProgram) (code : List ℕ) (place : ℕ → ℕ) (size : length code ≡ p.data_start / 2) where
+module _ (laws : Laws) (p : SourceProgram) (code : List ℕ) (place : Routine → ℕ) (size : length code ≡ p.data_start / 2) where
   -- the return places of a frame that called, over those below it, as entries
   joined : (tail : Bool) (f : Frame) (base below : List (Option ℕ)) (under : List Entry) → Called code place p tail f base below → below ≡ places_below under →
       AreEntries under → (above : List Entry) × (base ≡ places_below above) × AreEntries above

@@ -18,7 +18,7 @@ use Rattle.word_laws.specs.Rings.{OpenConfiguration}
 use Rattle.forth_program.specs.Cells.{AreCells, AreEntries, IsWorld}
 use Rattle.word_laws.specs.Control.{HoldsInstruction}
 use Rattle.word_laws.specs.Standing.{data_places, return_places, standing_as, StandIn, machine_at}
-use Rattle.code_layout.specs.Layout.{do_cells, out_cells, loop_cells, plus_loop_cells}
+use Rattle.code_layout.specs.Layout.{Routine, do_cells, out_cells, loop_cells, plus_loop_cells}
 use Rattle.forth_program.specs.SourceTokens.{tokens_of}
 use Rattle.code_layout.proofs.Work.{ahead, unfinished, Placed, Stands, Loops, loops_before, stands_to, Frames}
 use Rattle.code_layout.proofs.Machine.{Laws, Runs, runs_then, runs_one}
@@ -35,7 +35,7 @@ next_difference index limit step h k l = omega arith
 sum_turned : (x y : ℕ) → sum_of x y ≡ sum_of y x
 sum_turned x y = omega arith
 
-module _ (laws : Laws) (p : SourceProgram) (code : List ℕ) (place : ℕ → ℕ) (size : length code ≡ p.data_start / 2) (high return_high : ℕ) (fs : List Frame)
+module _ (laws : Laws) (p : SourceProgram) (code : List ℕ) (place : Routine → ℕ) (size : length code ≡ p.data_start / 2) (high return_high : ℕ) (fs : List Frame)
     (world : World) (fits : IsWorld world) (starts : world.data_start ≡ p.data_start) (base : List (Option ℕ)) where
   abbrev pub with_cells : List Work → List Entry → List ℕ → State
   with_cells w es c = record { work = w; entries = es; callers = fs; cells = c; world = world }

@@ -14,6 +14,7 @@ use Rattle.word_laws.specs.Rings.{OpenConfiguration, BeforeEach}
 use Rattle.word_laws.specs.Bounds.{StaysWithin}
 use Rattle.word_laws.specs.Standing.{return_places, standing_as, machine_at}
 use Rattle.forth_program.specs.Heights.{address_height, return_height, peak_of, back_of, StepsFit, DepthsFit}
+use Rattle.code_layout.specs.Layout.{Routine}
 use Rattle.code_layout.specs.Agreement.{Shows}
 use Rattle.code_layout.proofs.Work.{places_height, callers_fit, ahead, unfinished, Meets}
 use Rattle.code_layout.proofs.Machine.{Laws, Runs, narrower, wider, runs_then}
@@ -63,7 +64,7 @@ nothing_spent : (p : SourceProgram) (s : State) (total : ℕ) → spent p total 
 unfolding spent
 nothing_spent p s total = refl
 
-module _ (laws : Laws) (p : SourceProgram) (code : List ℕ) (place : ℕ → ℕ) (size : length code ≡ p.data_start / 2) (all : AllStand laws p code place size) where
+module _ (laws : Laws) (p : SourceProgram) (code : List ℕ) (place : Routine → ℕ) (size : length code ≡ p.data_start / 2) (all : AllStand laws p code place size) where
   -- the machine stands where a state stands
   pub record StandsAs (v : OpenConfiguration) (s : State) : Type 0 where
     pub out : Option ℕ

@@ -12,7 +12,7 @@ use Rattle.word_laws.specs.Rings.{OpenConfiguration, BeforeEach}
 use Rattle.word_laws.specs.Bounds.{StaysWithin}
 use Rattle.word_laws.specs.Standing.{standing_as, machine_end, machine_at}
 use Rattle.forth_program.specs.Tree.{Nodes}
-use Rattle.code_layout.specs.Layout.{laid_out}
+use Rattle.code_layout.specs.Layout.{Routine, Definition, routine_place, laid_out}
 use Rattle.code_layout.specs.Library.{IsLibrary, LibraryMeans}
 use Rattle.code_layout.specs.Built.{IsBuilt}
 use Rattle.code_layout.specs.Agreement.{AreBytes, code_of, stop_of_outcome, Shows, ForwardSimulation, word_steps, BackwardSimulation, ImagesAgree}
@@ -21,7 +21,7 @@ use Rattle.code_layout.proofs.Work.{ahead, ahead_bound, loops_before, Meets}
 use Rattle.code_layout.proofs.Machine.{Laws, runs_one}
 use Rattle.code_layout.proofs.Runs.{strays, strays_not, Reaches, reaches}
 use Rattle.code_layout.proofs.Steps.{AllStand}
-use Rattle.code_layout.proofs.Image.{first_world_is, definitions, code_size, begins, main_called, all_stand}
+use Rattle.code_layout.proofs.Image.{first_world_is, code_size, front_stands, begins, main_called, all_stand}
 use Rattle.code_layout.proofs.Library.{routines}
 
 -- no end of a source is a lack of the open machine
@@ -54,11 +54,12 @@ enough n c most k h far =
     spread n most = omega (arith, add-mul n 1 (most + 4), mul-add n most 4, mul-add n most 1)
 
 module _ (laws : Laws) (library : List Nodes) (form : IsLibrary library) (means : LibraryMeans library) (p : SourceProgram) (built : IsBuilt library p) (space : AreBytes p.first_space) (input : List ℕ) (bytes : AreBytes input) where
-  abbrev places : ℕ → ℕ
-  places = definitions laws library p built
+  abbrev places : Routine → ℕ
+  places = routine_place library p
 
   abbrev stand : AllStand laws p (code_of library p) places (code_size laws library p built)
-  stand = all_stand laws library p built (routines laws library p built form means)
+  stand = all_stand laws library p built (code_of library p) (code_size laws library p built) (front_stands laws library p built)
+      (routines laws library p built form means (code_of library p) (code_size laws library p built) (front_stands laws library p built))
 
   abbrev code : List ℕ
   code = code_of library p
@@ -68,9 +69,9 @@ module _ (laws : Laws) (library : List Nodes) (form : IsLibrary library) (means 
 
   -- the machine at MAIN
   abbrev main : OpenConfiguration
-  main = standing_as (first_state p input) (machine_at (code_of library p) (places p.main_body) (Some 2 ∷ []) [] [])
+  main = standing_as (first_state p input) (machine_at (code_of library p) (places (Definition p.main_body)) (Some 2 ∷ []) [] [])
 
-  main_meets : Meets (code_of library p) places p None (places p.main_body) (first_state p input) (Some 2 ∷ [])
+  main_meets : Meets (code_of library p) places p None (places (Definition p.main_body)) (first_state p input) (Some 2 ∷ [])
   main_meets = record {
     stands = stand.bodies p.main_body built.has_main;
     loops = loops_before (code_of library p) places p (body_of p p.main_body) None [] refl;
@@ -84,7 +85,7 @@ module _ (laws : Laws) (library : List Nodes) (form : IsLibrary library) (means 
   called : (high return_high : ℕ) → BeforeEach (StaysWithin 0 high 0 return_high) p.data_start 1 start × (run open_storage p.data_start 1 start ≡ main)
   called high return_high =
       let v = standing_as (first_state p input) (machine_at (code_of library p) 0 [] [] []) in
-      let leads = laws.calls p.data_start (places p.main_body) (machine_at (code_of library p) 0 [] [] []) [] (first_state p input).world (main_called laws library p built) in
+      let leads = laws.calls p.data_start (places (Definition p.main_body)) (machine_at (code_of library p) 0 [] [] []) [] (first_state p input).world (main_called laws library p built (code_of library p) (code_size laws library p built) (front_stands laws library p built)) in
       let one = runs_one laws p.data_start 0 0 high return_high v main (omega arith) (omega arith) leads in
       (subst (BeforeEach (StaysWithin 0 high 0 return_high) p.data_start 1) (sym (begins laws library p built input)) one.bounds, ap (run open_storage p.data_start 1) (begins laws library p built input) ∙ one.makes)
 
@@ -99,7 +100,7 @@ module _ (laws : Laws) (library : List Nodes) (form : IsLibrary library) (means 
   main_reaches : (k : ℕ) → IsSafe p input k → leaves (source_run p input k) ≡ false → Main k
   unfolding source_run
   main_reaches k well stays =
-      reaches laws p (code_of library p) places (code_size laws library p built) stand k 8 (places p.main_body) None (first_state p input) (Some 2 ∷ []) [] [] main_meets (strays_not (steps p k (first_state p input)) well.lacks_nothing stays) well.depth_fits
+      reaches laws p (code_of library p) places (code_size laws library p built) stand k 8 (places (Definition p.main_body)) None (first_state p input) (Some 2 ∷ []) [] [] main_meets (strays_not (steps p k (first_state p input)) well.lacks_nothing stays) well.depth_fits
 
   as_much_from : (k : ℕ) → Main k → ForwardSimulation library p input k
   unfolding source_run price
@@ -114,7 +115,7 @@ module _ (laws : Laws) (library : List Nodes) (form : IsLibrary library) (means 
             never_missing (steps p k (first_state p input)) (sym r.shows.stop_is ∙ ap (λ v. v.stop) (sym (from_main r.count) ∙ later) ∙ e);
         far_enough = λ n le e.
             let far = r.progress e in
-            let low = ahead_bound (code_of library p) places p None (places p.main_body) (first_state p input).work main_meets.stands in
+            let low = ahead_bound (code_of library p) places p None (places (Definition p.main_body)) (first_state p input).work main_meets.stands in
             let many : n ≤ r.count = enough n r.count p.source_tokens k le (omega (arith, far, low)) in
             omega (arith, many);
         stacks_before = λ high return_high fit.

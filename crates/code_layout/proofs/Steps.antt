@@ -24,6 +24,7 @@ use Rattle.word_laws.specs.Standing.{data_places, return_places, standing_as, ma
 use Rattle.word_laws.specs.Words.{stands_plain, return_need, CellsApply}
 use Rattle.forth_program.specs.Run.{lacks}
 use Rattle.forth_program.specs.Heights.{DepthFits}
+use Rattle.code_layout.specs.Layout.{Routine, Definition}
 use Rattle.code_layout.proofs.Work.{ahead, steps_left, unfinished, CallStands, Stands, Loops, loops_before, ahead_bound, ends_at_return, Called, Frames, Meets}
 use Rattle.code_layout.proofs.Machine.{Laws, Runs, narrower, wider, runs_then, runs_one}
 use Rattle.code_layout.proofs.Phrases.{word_ready, word_bounded, word_comes}
@@ -51,7 +52,7 @@ pub applies : (word : Word) (after : List Work) (c : List ℕ) → DepthFits (Is
 applies Depth after c fits = fits
 applies word after c fits = tt
 
-module _ (laws : Laws) (p : SourceProgram) (code : List ℕ) (place : ℕ → ℕ) (size : length code ≡ p.data_start / 2) where
+module _ (laws : Laws) (p : SourceProgram) (code : List ℕ) (place : Routine → ℕ) (size : length code ≡ p.data_start / 2) where
   -- the machine comes to where a state stands
   pub record Comes (v : OpenConfiguration) (price now high return_high : ℕ) (after : State) : Type 0 where
     pub count : ℕ
@@ -158,7 +159,7 @@ module _ (laws : Laws) (p : SourceProgram) (code : List ℕ) (place : ℕ → �
   -- the header's halt, and every body
   pub record AllStand : Type 0 where
     pub halt : StandIn code 1 halt_cells 4
-    pub bodies : (d : ℕ) → d < length p.bodies → Stands code place p None (place d) (before (body_of p d) [])
+    pub bodies : (d : ℕ) → d < length p.bodies → Stands code place p None (place (Definition d)) (before (body_of p d) [])
 
   module _ (high return_high pc now : ℕ) (out : Option ℕ) (fs : List Frame) (world : World) (fits : IsWorld world) (starts : world.data_start ≡ p.data_start)
       (base data_above return_above : List (Option ℕ)) (frames : Frames code place p fs base) (due : unfinished fs ≤ now) where
@@ -263,14 +264,14 @@ module _ (laws : Laws) (p : SourceProgram) (code : List ℕ) (place : ℕ → �
         (record { stands = s; loops = l; frames = frames; cells = fc; entries = fe; world = fits; starts = starts })
 
     pub call_follows : AllStand → (tail : Bool) (d : ℕ) (w : List Work) (es : List Entry) (c : List ℕ) → ends_body w ≡ tail → d < length p.bodies →
-        CallStands code place p tail pc (place d) (Stands code place p out (following pc) w) → Loops code place p out w →
+        CallStands code place p tail pc (place (Definition d)) (Stands code place p out (following pc) w) → Loops code place p out w →
         1 + ahead w + unfinished fs ≤ now → ahead w ≤ p.source_tokens → AreEntries es → AreCells c → length c ≤ high → length (return_places es base) ≤ return_high → Comes (There es c) 1 now high return_high (called p d (here w es c))
     -- in tail position the frame keeps no address
     call_follows all true d w es c e lt holds l n few fe fc room back =
         let left : steps_left (ends_body w) w ≡ 1 + ahead w = ap (λ tail. steps_left tail w) e in
-        comes (There es c) 1 (place d) 1 now high return_high None (called p d (here w es c)) (return_places es base) data_above return_above (omega arith) (omega arith) (omega (arith, left))
+        comes (There es c) 1 (place (Definition d)) 1 now high return_high None (called p d (here w es c)) (return_places es base) data_above return_above (omega arith) (omega arith) (omega (arith, left))
         (runs_one laws p.data_start (length c) (length (return_places es base)) high return_high (There es c) _ room back
-        (laws.jumps p.data_start (place d) (machine_at code pc (return_places es base) data_above return_above) c world holds))
+        (laws.jumps p.data_start (place (Definition d)) (machine_at code pc (return_places es base) data_above return_above) c world holds))
         (record {
           stands = all.bodies d lt;
           loops = loops_before code place p (body_of p d) None [] refl;
@@ -282,9 +283,9 @@ module _ (laws : Laws) (p : SourceProgram) (code : List ℕ) (place : ℕ → �
         })
     call_follows all false d w es c e lt holds l n few fe fc room back =
         let left : steps_left (ends_body w) w ≡ 0 = ap (λ tail. steps_left tail w) e in
-        comes (There es c) 1 (place d) 1 now high return_high None (called p d (here w es c)) (Some (2 * following pc) ∷ return_places es base) data_above (rest return_above) (omega arith) (omega arith) (omega (arith, left))
+        comes (There es c) 1 (place (Definition d)) 1 now high return_high None (called p d (here w es c)) (Some (2 * following pc) ∷ return_places es base) data_above (rest return_above) (omega arith) (omega arith) (omega (arith, left))
         (runs_one laws p.data_start (length c) (length (return_places es base)) high return_high (There es c) _ room back
-        (laws.calls p.data_start (place d) (machine_at code pc (return_places es base) data_above return_above) c world holds.0))
+        (laws.calls p.data_start (place (Definition d)) (machine_at code pc (return_places es base) data_above return_above) c world holds.0))
         (record {
           stands = all.bodies d lt;
           loops = loops_before code place p (body_of p d) None [] refl;

@@ -16,6 +16,7 @@ use Rattle.forth_program.specs.Cells.{AreCells, AreEntries, IsWorld}
 use Rattle.word_laws.specs.Numbers.{number_cells}
 use Rattle.word_laws.specs.Standing.{return_places, standing_as, StandIn, machine_at}
 use Rattle.forth_program.specs.Heights.{text_peak, text_back}
+use Rattle.code_layout.specs.Layout.{Routine, Definition}
 use Rattle.code_layout.proofs.Machine.{Laws, Runs, runs_then}
 use Rattle.code_layout.proofs.Routines.{abort_reply, abort_price}
 use Rattle.code_layout.proofs.Work.{ahead, unfinished, CallStands, Stands, TextStands, Loops, Frames}
@@ -28,7 +29,7 @@ same_left : (o : Reply (List ℕ)) (w : List Work) (es : List Entry) (fs : List 
 same_left (Gives cells world') w es fs c c' world = refl
 same_left (Stops end world') w es fs c c' world = refl
 
-module _ (laws : Laws) (p : SourceProgram) (code : List ℕ) (place : ℕ → ℕ) (size : length code ≡ p.data_start / 2) (high return_high pc now : ℕ)
+module _ (laws : Laws) (p : SourceProgram) (code : List ℕ) (place : Routine → ℕ) (size : length code ≡ p.data_start / 2) (high return_high pc now : ℕ)
     (out : Option ℕ) (fs : List Frame) (world : World) (fits : IsWorld world) (starts : world.data_start ≡ p.data_start)
     (base data_above return_above : List (Option ℕ)) (frames : Frames code place p fs base) (due : unfinished fs ≤ now) where
   -- the state of a frame over these, and the machine at a place
@@ -58,7 +59,7 @@ module _ (laws : Laws) (p : SourceProgram) (code : List ℕ) (place : ℕ → �
   -- a child: its address, and then the call
   pub child_follows : AllStand laws p code place size → (tail : Bool) (d address next : ℕ) (w : List Work) (es : List Entry) (c : List ℕ) → ends_body w ≡ tail →
       address < 32768 → StandIn code pc (number_cells address) next → d < length p.bodies →
-      CallStands code place p tail next (place d) (Stands code place p out (following next) w) → Loops code place p out w → 1 + ahead w + unfinished fs ≤ now → ahead w ≤ p.source_tokens → AreEntries es → AreCells c →
+      CallStands code place p tail next (place (Definition d)) (Stands code place p out (following next) w) → Loops code place p out w → 1 + ahead w + unfinished fs ≤ now → ahead w ≤ p.source_tokens → AreEntries es → AreCells c →
       length c + 1 ≤ high → length (return_places es base) ≤ return_high → Follows laws p code place size (at_place pc es c data_above return_above) 2 now high return_high (Goes (called p d (here w es (address ∷ c))))
   child_follows all tail d address next w es c e small stands lt holds l n few fe fc room back =
       let cell : address < 65536 = omega arith in

@@ -1,5 +1,5 @@
 -- Where the code of work stands: each item at a place, and then the code of what follows it.
-use Rattle.std.proofs.Common.{◌≡◌, ℕ, ◌+◌, ◌*◌, ◌<◌, ◌≤◌, ◌⊎◌, inl, inr, Bool, true, false, List, [], ◌∷◌, length, slice_index, Option, Some, None, refl, sym, ap, subst, arith}
+use Rattle.std.proofs.Common.{◌≡◌, ℕ, ◌+◌, ◌*◌, ◌<◌, ◌≤◌, ◌⊎◌, inl, inr, Bool, true, false, List, [], ◌∷◌, length, Option, Some, None, refl, sym, ap, subst, arith}
 use Rattle.j1_table.specs.declared.instr.Instr.TheVariants.{Jump, Branch, Call as CallTo}
 use Rattle.j1_table.specs.Instruction.{decoded}
 use Rattle.j1_simulator.specs.Effect.{following}
@@ -8,7 +8,7 @@ use Rattle.forth_program.specs.Tree.{Node, Nodes, Arms, Literal, Plain, Call, Ch
 use Rattle.forth_program.specs.State.{Entry, Cell, Loop, Work, Todo, TrueEnd, UntilTest, WhileTest, Repeat, BeginAgain, Turn, OfTest, EndOf, EndCase, Frame, World, State, Halted}
 use Rattle.forth_program.specs.Tail.{is_tail, ends_body}
 use Rattle.forth_program.specs.Program.{SourceProgram, token_of}
-use Rattle.forth_program.specs.Form.{may_be_token}
+use Rattle.forth_program.specs.Form.{may_be_token, has_no_go}
 use Rattle.forth_program.specs.Step.{First, BodyEnd, IsLiteral, IsWord, IsCall, IsChild, IsText, IsIf, IsTrueEnd, IsUntil, IsWhile, IsRepeat, IsAgain, IsDo}
 use Rattle.forth_program.specs.Step.{IsQDo, IsTurn, IsOf, IsEndOf, IsEndCase, IsLeave, IsExit, before, first_in, first_among, first_work}
 use Rattle.forth_program.specs.Cells.{AreCells, AreEntries, IsWorld}
@@ -23,7 +23,7 @@ use Rattle.forth_program.specs.declared.item.TextKind.TheVariants as text
 use Rattle.word_laws.specs.Rings.{OpenConfiguration}
 use Rattle.code_layout.proofs.Machine.{Runs}
 use Rattle.code_layout.proofs.Routines.{places_below, Stopped, IsRoutine, IsAborter}
-use Rattle.code_layout.specs.Layout.{do_cells, loop_cells, plus_loop_cells, out_cells, end_case_cells}
+use Rattle.code_layout.specs.Layout.{Routine, Definition, Leaving, do_cells, loop_cells, plus_loop_cells, out_cells, end_case_cells}
 use Rattle.forth_program.specs.Heights.{entries_height, address_height, callers_height}
 use Rattle.forth_program.specs.SourceTokens.{node_tokens, tokens_of}
 
@@ -55,7 +55,7 @@ places_height [] base = omega arith
 places_height (Cell value ∷ es) base = omega (arith, places_height es base)
 places_height (Loop limit index ∷ es) base = omega (arith, places_height es base)
 
-module _ (code : List ℕ) (place : ℕ → ℕ) (p : SourceProgram) where
+module _ (code : List ℕ) (place : Routine → ℕ) (p : SourceProgram) where
   abbrev pub Returns : ℕ → Type 0
   Returns pc = HoldsInstruction code pc (decoded 0x700C)
 
@@ -137,7 +137,7 @@ module _ (code : List ℕ) (place : ℕ → ℕ) (p : SourceProgram) where
     pub small : address < 32768
     pub number : StandIn code pc (number_cells address) next
     pub known : d < length p.bodies
-    pub call : CallStands tail next (place d) (K (following next))
+    pub call : CallStands tail next (place (Definition d)) (K (following next))
 
   -- a word by its own cells, or by the call of its routine, and K holds of the place where it leads
   abbrev pub PlainStands : Bool → ℕ → Word → (ℕ → Type 0) → Type 0
@@ -148,7 +148,7 @@ module _ (code : List ℕ) (place : ℕ → ℕ) (p : SourceProgram) where
   -- the code of a token: that of a definition or a library word, or of an item that returns, or of a child, which goes on at its
   -- definition
   abbrev pub TokenStands : Node → ℕ → Type 0
-  TokenStands (Call d) at = (d < length p.bodies) × (at ≡ place d)
+  TokenStands (Call d) at = (d < length p.bodies) × (at ≡ place (Definition d))
   TokenStands (Literal value) at = (next : ℕ) × (value < 65536) × StandIn code at (number_cells value) next × Returns next
   TokenStands (Plain word) at =
       (may_be_token (Plain word) ≡ true) × (((next : ℕ) × (stands_plain word ≡ true) × StandIn code at (cells_from p.data_start word) next × Returns next) ⊎ IsRoutine p.data_start code word at)
@@ -176,12 +176,9 @@ module _ (code : List ℕ) (place : ℕ → ℕ) (p : SourceProgram) where
   abbrev pub ExecuteStands : Bool → ℕ → Word → (ℕ → Type 0) → Type 0
   ExecuteStands tail pc word K = (word ≡ Execute) × (at : ℕ) × CallStands tail pc at (K (following pc)) × IsExecutor at
 
-  -- the code at a place takes the top cell, and goes on where it tells
-  abbrev pub IsLeaver : ℕ → Type 0
-  IsLeaver at = (slice_index code at ≡ 0x6147) × (at < length code) × Returns (following at)
-
+  -- GO is a call of its code, in a program that has it
   abbrev pub GoStands : Bool → ℕ → Word → (ℕ → Type 0) → Type 0
-  GoStands tail pc word K = (word ≡ Go) × (at : ℕ) × CallStands tail pc at (K (following pc)) × IsLeaver at
+  GoStands tail pc word K = (word ≡ Go) × (has_no_go p ≡ false) × CallStands tail pc (place Leaving) (K (following pc))
 
   -- what follows the address and the length of a text
   abbrev pub TextStands : Bool → ℕ → TextKind → (ℕ → Type 0) → Type 0
@@ -233,7 +230,7 @@ module _ (code : List ℕ) (place : ℕ → ℕ) (p : SourceProgram) where
     pub Placed : Option ℕ → ℕ → Bool → Node → (ℕ → Type 0) → Type 0
     Placed out pc tail (Literal value) K = (next : ℕ) × (value < 65536) × StandIn code pc (number_cells value) next × K next
     Placed out pc tail (Plain word) K = PlainStands tail pc word K ⊎ (ExecuteStands tail pc word K ⊎ GoStands tail pc word K)
-    Placed out pc tail (Call d) K = (d < length p.bodies) × CallStands tail pc (place d) (K (following pc))
+    Placed out pc tail (Call d) K = (d < length p.bodies) × CallStands tail pc (place (Definition d)) (K (following pc))
     Placed out pc tail (Child d address) K = ChildStands tail pc d address K
     Placed out pc tail (Text kind address characters) K = TextItemStands tail pc kind address characters K
     Placed out pc tail (If first Empty) K = (next : ℕ) × HoldsInstruction code pc (Branch next) × AllPlaced out (following pc) tail first K × K next
@@ -265,14 +262,14 @@ module _ (code : List ℕ) (place : ℕ → ℕ) (p : SourceProgram) where
     placed_more (Literal value) tail out pc K K' f h = (h.0, h.1, h.2, f h.0 h.3)
     placed_more (Plain word) tail out pc K K' f (inl h) = inl (plain_more tail pc word K K' f h)
     placed_more (Plain word) tail out pc K K' f (inr (inl h)) = inr (inl (h.0, h.1, call_more tail pc h.1 (K (following pc)) (K' (following pc)) (f (following pc)) h.2, h.3))
-    placed_more (Plain word) tail out pc K K' f (inr (inr h)) = inr (inr (h.0, h.1, call_more tail pc h.1 (K (following pc)) (K' (following pc)) (f (following pc)) h.2, h.3))
-    placed_more (Call d) tail out pc K K' f h = (h.0, call_more tail pc (place d) (K (following pc)) (K' (following pc)) (f (following pc)) h.1)
+    placed_more (Plain word) tail out pc K K' f (inr (inr h)) = inr (inr (h.0, h.1, call_more tail pc (place Leaving) (K (following pc)) (K' (following pc)) (f (following pc)) h.2))
+    placed_more (Call d) tail out pc K K' f h = (h.0, call_more tail pc (place (Definition d)) (K (following pc)) (K' (following pc)) (f (following pc)) h.1)
     placed_more (Child d address) tail out pc K K' f h = record {
       next = h.next;
       small = h.small;
       number = h.number;
       known = h.known;
-      call = call_more tail h.next (place d) (K (following h.next)) (K' (following h.next)) (f (following h.next)) h.call;
+      call = call_more tail h.next (place (Definition d)) (K (following h.next)) (K' (following h.next)) (f (following h.next)) h.call;
     }
     placed_more (Text kind address size) tail out pc K K' f h = record {
       middle = h.middle;
