@@ -14,12 +14,14 @@ pub mod LoopSteps
 pub mod CaseSteps
 pub mod FirstSteps
 pub mod Runs
+pub mod GoStep
 pub mod Everywhere
 pub mod LaidCode
 pub mod ExecuteAndAbort
 pub mod Image
 pub mod Library
 pub mod Simulation
+pub mod LedOut
 pub mod Chips
 pub mod Followed
 pub mod CallsFollowed

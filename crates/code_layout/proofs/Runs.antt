@@ -40,15 +40,15 @@ strays_not (Ends InputEnded world) e f = refl
 strays_not (Ends (Outside address) world) e f = refl
 
 module _ (p : SourceProgram) (s : State) (k total : ℕ) where
-  steps_on : (after : State) → step p s ≡ Goes after → steps p (suc k) s ≡ steps p k after
+  pub steps_on : (after : State) → step p s ≡ Goes after → steps p (suc k) s ≡ steps p k after
   unfolding steps
   steps_on after e = rw e refl
 
-  steps_end : (end : End) (world : World) → step p s ≡ Ends end world → steps p (suc k) s ≡ Ends end world
+  pub steps_end : (end : End) (world : World) → step p s ≡ Ends end world → steps p (suc k) s ≡ Ends end world
   unfolding steps
   steps_end end world e = rw e refl
 
-  spent_on : (after : State) → step p s ≡ Goes after → spent p total (suc k) s ≡ spent p (total + step_price s) k after
+  pub spent_on : (after : State) → step p s ≡ Goes after → spent p total (suc k) s ≡ spent p (total + step_price s) k after
   unfolding spent
   spent_on after e = rw e refl
 
@@ -56,11 +56,11 @@ module _ (p : SourceProgram) (s : State) (k total : ℕ) where
   unfolding spent
   spent_end end world e = rw e refl
 
-no_steps : (p : SourceProgram) (s : State) → steps p 0 s ≡ Goes s
+pub no_steps : (p : SourceProgram) (s : State) → steps p 0 s ≡ Goes s
 unfolding steps
 no_steps p s = refl
 
-nothing_spent : (p : SourceProgram) (s : State) (total : ℕ) → spent p total 0 s ≡ total
+pub nothing_spent : (p : SourceProgram) (s : State) (total : ℕ) → spent p total 0 s ≡ total
 unfolding spent
 nothing_spent p s total = refl
 
@@ -92,7 +92,7 @@ module _ (laws : Laws) (p : SourceProgram) (code : List ℕ) (place : Routine �
     pub progress : end_of (steps p k s) ≡ None → k ≤ now + count * (p.source_tokens + 1)
     pub stands : StandsWhere (run open_storage p.data_start count v) (steps p k s)
 
-  height_is : (out : Option ℕ) (pc : ℕ) (s : State) (base : List (Option ℕ)) → Meets code place p out pc s base → length (return_places s.entries base) ≡ return_height s
+  pub height_is : (out : Option ℕ) (pc : ℕ) (s : State) (base : List (Option ℕ)) → Meets code place p out pc s base → length (return_places s.entries base) ≡ return_height s
   height_is out pc s base m = omega (arith, places_height s.entries base, callers_fit code place p s.callers base m.frames)
 
   none_yet : (total now : ℕ) (s : State) (v : OpenConfiguration) → Shows code v (Goes s) → StandsAs v s → Reaches zero total now s v

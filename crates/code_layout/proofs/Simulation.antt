@@ -57,7 +57,7 @@ module _ (laws : Laws) (library : List Nodes) (form : IsLibrary library) (means 
   abbrev places : Routine → ℕ
   places = routine_place library p
 
-  abbrev stand : AllStand laws p (code_of library p) places (code_size laws library p built)
+  abbrev pub stand : AllStand laws p (code_of library p) places (code_size laws library p built)
   stand = all_stand laws library p built (code_of library p) (code_size laws library p built) (front_stands laws library p built)
       (routines laws library p built form means (code_of library p) (code_size laws library p built) (front_stands laws library p built))
 
@@ -68,7 +68,7 @@ module _ (laws : Laws) (library : List Nodes) (form : IsLibrary library) (means 
   start = begun (open_start (laid_out library p)) input
 
   -- the machine at MAIN
-  abbrev main : OpenConfiguration
+  abbrev pub main : OpenConfiguration
   main = standing_as (first_state p input) (machine_at (code_of library p) (places (Definition p.main_body)) (Some 2 ∷ []) [] [])
 
   main_meets : Meets (code_of library p) places p None (places (Definition p.main_body)) (first_state p input) (Some 2 ∷ [])
@@ -82,7 +82,7 @@ module _ (laws : Laws) (library : List Nodes) (form : IsLibrary library) (means 
     starts = refl;
   }
 
-  called : (high return_high : ℕ) → BeforeEach (StaysWithin 0 high 0 return_high) p.data_start 1 start × (run open_storage p.data_start 1 start ≡ main)
+  pub called : (high return_high : ℕ) → BeforeEach (StaysWithin 0 high 0 return_high) p.data_start 1 start × (run open_storage p.data_start 1 start ≡ main)
   called high return_high =
       let v = standing_as (first_state p input) (machine_at (code_of library p) 0 [] [] []) in
       let leads = laws.calls p.data_start (places (Definition p.main_body)) (machine_at (code_of library p) 0 [] [] []) [] (first_state p input).world (main_called laws library p built (code_of library p) (code_size laws library p built) (front_stands laws library p built)) in
@@ -90,14 +90,14 @@ module _ (laws : Laws) (library : List Nodes) (form : IsLibrary library) (means 
       (subst (BeforeEach (StaysWithin 0 high 0 return_high) p.data_start 1) (sym (begins laws library p built input)) one.bounds, ap (run open_storage p.data_start 1) (begins laws library p built input) ∙ one.makes)
 
   -- the run from the start is that from MAIN, after its call
-  from_main : (n : ℕ) → open_run (laid_out library p) input (1 + n) ≡ run open_storage p.data_start n main
+  pub from_main : (n : ℕ) → open_run (laid_out library p) input (1 + n) ≡ run open_storage p.data_start n main
   from_main n =
       laws.runs_join 1 n p.data_start start ∙ ap (run open_storage p.data_start n) (called 0 0).1
 
-  abbrev Main : ℕ → Type 0
+  abbrev pub Main : ℕ → Type 0
   Main k = Reaches laws p (code_of library p) places (code_size laws library p built) stand k 8 (ahead (first_state p input).work + 0) (first_state p input) main
 
-  main_reaches : (k : ℕ) → IsSafe p input k → leaves (source_run p input k) ≡ false → Main k
+  pub main_reaches : (k : ℕ) → IsSafe p input k → leaves (source_run p input k) ≡ false → Main k
   unfolding source_run
   main_reaches k well stays =
       reaches laws p (code_of library p) places (code_size laws library p built) stand k 8 (places (Definition p.main_body)) None (first_state p input) (Some 2 ∷ []) [] [] main_meets (strays_not (steps p k (first_state p input)) well.lacks_nothing stays) well.depth_fits

@@ -7,3 +7,4 @@ pub mod Chip
 pub mod LastCalls
 pub mod Places
 pub mod Weights
+pub mod Leaving

@@ -1,6 +1,7 @@
 // What the open machine does on the image of a program.
 ghost use Rattle.code_layout.specs.Agreement.{ImagesAgree};
 ghost use Rattle.code_layout.specs.Chip.{ChipsAgree};
+ghost use Rattle.code_layout.specs.Leaving.{ImagesAreLedOut};
 ghost use Rattle.code_layout.specs.LastCalls.{LastCallsAreJumps};
 ghost use Rattle.code_layout.specs.Weights.{CodeIsLight, ItemsAreLight, TokensAreLight};
 
@@ -17,6 +18,24 @@ use word_laws::{
 /// is the source's.
 pub fn images_agree()
     ensures { ImagesAgree }
+{
+    words_do_their_meaning();
+    words_keep_their_bounds();
+    needs_are_exact();
+    words_leave_cells();
+    words_change_depths();
+    numbers_do_their_meaning();
+    control_leads();
+    halt_ends();
+    cells_stand();
+    runs_join();
+    runs_only_grow();
+}
+
+/// A step of `GO` leads the open machine to its address, within the price of the steps up to it, with the data cells, the data
+/// space, the input left and the prints of the source.
+pub fn images_are_led_out()
+    ensures { ImagesAreLedOut }
 {
     words_do_their_meaning();
     words_keep_their_bounds();

@@ -20,5 +20,8 @@ mod tokens;
 mod words;
 
 pub use cells::tail_jump;
-pub use laws::{chips_agree, code_is_light, images_agree, items_are_light, last_calls_are_jumps};
+pub use laws::{
+    chips_agree, code_is_light, images_agree, images_are_led_out, items_are_light,
+    last_calls_are_jumps,
+};
 pub use layout::lay_out;
