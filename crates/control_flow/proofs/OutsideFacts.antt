@@ -32,7 +32,7 @@ use Rattle.control_flow.specs.SourceText.{Source, OutsideToken, before_by, befor
 use Rattle.control_flow.specs.SourceText.{child_by, resumed, outside_by}
 use Rattle.control_flow.specs.SourceLaw.{is_read_token}
 use Rattle.control_flow.proofs.Readings.{Passes}
-use Rattle.control_flow.proofs.Senses.{AllBelow, IsKnown, below_more, IsTicked, ticked_is, LacksGo, still_lacks}
+use Rattle.control_flow.proofs.Senses.{AllBelow, IsKnown, below_more, IsTicked, ticked_is, still_lacks}
 use Rattle.control_flow.proofs.Moves.{Good, good_then, good_weaker, Moves, weighs}
 use Rattle.control_flow.proofs.HostFacts.{IsSound, Leads, ticks, Knows, moved_ticks, Goes, goes_then, Keeps, keeps_then, reads_on}
 use Rattle.control_flow.proofs.HostFacts.{good_hosted, after_if, settles_keeps, same_goes, keeps_of, ActedRead, acted_read, quoted_read, TickRead, tick_read}

@@ -21,7 +21,7 @@ use Rattle.control_flow.specs.SourceText.{Source, outside_at}
 use Rattle.control_flow.specs.SourceText.{outside_by, program_with, known_definition, main_of, program_of_source, source_by, source_at, source_start, program_in}
 use Rattle.control_flow.specs.SourceLaw.{is_read, is_read_token, IsSource, EachIsJudged, EachProgramIsSource, SourcesHaveNoGo}
 use Rattle.control_flow.proofs.Readings.{next_passes}
-use Rattle.control_flow.proofs.Senses.{IsKnown, newest_below, LacksGo, still_lacks}
+use Rattle.control_flow.proofs.Senses.{IsKnown, newest_below, LacksGo}
 use Rattle.control_flow.proofs.Moves.{Good, good_then, good_is}
 use Rattle.control_flow.proofs.HostFacts.{most_small}
 use Rattle.control_flow.proofs.BodyFacts.{all_wider, read_id, read_stands, token_id, token_stands, each_wider, as_many}
