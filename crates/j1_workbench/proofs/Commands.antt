@@ -16,7 +16,7 @@ use Rattle.step_certifier.specs.declared.bound.BoundCause.{BoundCause}
 use Rattle.step_certifier.specs.Bound.{Bounded, Refused, step_bound}
 use Rattle.step_certifier.specs.Law.{EndsOnChip}
 use Rattle.j1_workbench.specs.declared.status.Status.{Status}
-use Rattle.j1_workbench.specs.declared.status.Status.TheVariants.{BadWords, OutOfMemory, NotYet, BoundRefused}
+use Rattle.j1_workbench.specs.declared.status.Status.TheVariants.{BadWords, OutOfMemory, BoundRefused}
 use Rattle.j1_workbench.specs.declared.answer.Answer.{Answer}
 use Rattle.j1_workbench.specs.Words.{Request, Run, Build, Execute, ListImage, Assemble, Certify, Evaluate, Forth, Make, Bound, Net, request_of, steps_allowed}
 use Rattle.j1_workbench.specs.Notes.{named}
@@ -27,6 +27,7 @@ use Rattle.j1_workbench.specs.Driving.{Drives}
 use Rattle.j1_workbench.specs.Running.{Runs}
 use Rattle.j1_workbench.specs.Compiling.{CompilesText, CompilesSource}
 use Rattle.j1_workbench.specs.Building.{Builds}
+use Rattle.j1_workbench.specs.Serving.{session_steps, Serves}
 use Rattle.j1_workbench.specs.Executing.{Executes}
 use Rattle.j1_workbench.specs.ListingImage.{Lists}
 use Rattle.j1_workbench.specs.Assembling.{AssemblesFile}
@@ -249,17 +250,8 @@ does_make words seed count steps before after status name asked same makes =
     subst (λ r. Does r before after status name) (sym asked)
     (subst (λ n. Makes seed count n before after status) same (makes (count_fits words seed count asked) (subst (λ n. 10000000 ≤ n) (sym same) enough)))
 
--- the commands that are not built
-abbrev is_unbuilt : Request → Bool
-is_unbuilt (Forth steps) = true
-is_unbuilt request = false
-
-not_yet : (request : Request) (before : Surroundings) (name : List ℕ) → is_unbuilt request ≡ true → Does (Some request) before before NotYet name
+pub does_forth : (asked : Option Request) (steps : Option ℕ) (before after : Surroundings) (answer : Answer) (status : Status) →
+    asked ≡ Some (Forth steps) → answer ≡ record { status = status; name = None } → Serves (session_steps steps) before after status → Does asked before after answer.status (named answer.name)
 unfolding Does
-not_yet (Forth steps) before name unbuilt = (refl, refl)
-not_yet request before name unbuilt = absurd cc
-
-pub does_not_yet : (asked : Option Request) (request : Request) (before : Surroundings) (answer : Answer) →
-    asked ≡ Some request → is_unbuilt request ≡ true → answer ≡ record { status = NotYet; name = None } → Does asked before before answer.status (named answer.name)
-does_not_yet asked request before answer is unbuilt same =
-    subst (λ a. Does asked before before a.status (named a.name)) (sym same) (subst (λ r. Does r before before NotYet []) (sym is) (not_yet request before [] unbuilt))
+does_forth asked steps before after answer status is same serves =
+    subst (λ a. Does asked before after a.status (named a.name)) (sym same) (subst (λ r. Does r before after status []) (sym is) serves)

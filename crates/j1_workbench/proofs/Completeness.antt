@@ -31,6 +31,7 @@ use Rattle.j1_workbench.specs.Building.{Builds}
 use Rattle.j1_workbench.specs.Making.{Makes}
 use Rattle.j1_table.specs.Image.{Content}
 use Rattle.image_file.specs.Laws.{FilesAreImages}
+use Rattle.j1_workbench.proofs.Sessions.{session_complete}
 use Rattle.j1_workbench.proofs.FileCompleteness.{ImageFileLaws, TextLaws, told_text, not_missing, done_answer, done_put, run_answer, execute_complete, list_complete, assemble_complete, built_runs}
 use Rattle.reference_eval.specs.declared.ends.End.TheVariants as ends
 use Rattle.reference_eval.specs.declared.ends.EvalFinish.{EvalFinish}
@@ -277,6 +278,7 @@ complete each sources end least none one files texts same nets = record {
   net = nets;
   build = build_complete one;
   make = make_complete;
+  forth = session_complete;
   execute = execute_complete files;
   list = list_complete files;
   assemble = assemble_complete texts;

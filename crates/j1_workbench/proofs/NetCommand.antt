@@ -17,7 +17,7 @@ use Rattle.j1_workbench.specs.Surroundings.{FolderState, Surroundings, IsOnlyRea
 use Rattle.j1_workbench.specs.Files.{HoldsFile, IsRead, IsUnread, IsRefusedFile}
 use Rattle.j1_workbench.specs.Sources.{IsRefusedSource}
 use Rattle.j1_workbench.specs.Compiling.{CompilesSource}
-use Rattle.j1_workbench.specs.Networking.{IsBadNet, IsNetFile, CompileEach, core_named, RefusesCores, net_status, net_output, WritesThen, ReadsOnce, Nets}
+use Rattle.j1_workbench.specs.Networking.{IsBadNet, IsNetFile, CompileEach, core_named, RefusesCores, net_status, net_output, WritesThen, Nets}
 
 -- ---- the net file
 
@@ -67,13 +67,6 @@ each_kept [] before middle images keeps each = each
 each_kept (source ∷ sources) before middle images keeps (image, others, same, first, rest) =
     (image, others, same, compiles_kept source before middle image keeps first, each_kept sources before middle others keeps rest)
 
-cores_kept : (n : ℕ) (sources : List (List ℕ)) (before middle after : FolderState) (status : Status) (name : List ℕ) → IsOnlyRead n before middle → RefusesCores sources middle after status name →
-    RefusesCores sources before after status name
-cores_kept n [] before middle after status name read refuses = refuses
-cores_kept n (source ∷ sources) before middle after status name read (inl (called, refused, named)) = inl (called, refused_kept n source before middle after status called read refused, named)
-cores_kept n (source ∷ sources) before middle after status name read (inr (image, first, rest)) =
-    inr (image, compiles_kept source before middle image read.files first, cores_kept n sources before middle after status name read rest)
-
 kept_after : (old mid new : Option Files) → KeepsFiles old mid → KeepsFiles mid new → KeepsFiles old new
 kept_after None mid new first second = tt
 kept_after (Some files) None new first second = absurd first
@@ -88,6 +81,15 @@ read_then n m k before middle after few first second = record {
   write_faults = second.write_faults ∙ first.write_faults;
   absences = omega (arith, first.absences, second.absences);
 }
+
+-- a folder that was called n times, and then m times, for the cores
+cores_kept : (n m : ℕ) (sources : List (List ℕ)) (before middle after : FolderState) (status : Status) (name : List ℕ) → IsOnlyRead n before middle → RefusesCores m sources middle after status name →
+    RefusesCores (n + m) sources before after status name
+cores_kept n m [] before middle after status name read (later, wanting) = (read_then n m (n + m) before middle after (omega arith) read later, wanting)
+cores_kept n m (source ∷ sources) before middle after status name read (inl (later, (called, refused, is))) =
+    inl (read_then n (suc m) (suc (n + m)) before middle after (omega arith) read later, (called, refused_kept n source before middle after status called read refused, is))
+cores_kept n m (source ∷ sources) before middle after status name read (inr (image, first, rest)) =
+    inr (image, compiles_kept source before middle image read.files first, subst (λ k. RefusesCores k sources before after status name) (omega arith) (cores_kept n (suc m) sources before middle after status name read rest))
 
 -- ---- the sources of the cores
 
@@ -125,19 +127,26 @@ more_images old pushed new source sources all before middle image is push first 
 
 -- the first source is refused, or a later one, or memory is wanting
 pub later_refused : (source : List ℕ) (sources all : List (List ℕ)) (before middle after : FolderState) (image : Content) (status : Status) (name : List ℕ) →
-    all ≡ source ∷ sources → CompilesSource source before image → IsOnlyRead 1 before middle → RefusesCores sources middle after status name → RefusesCores all before after status name
+    all ≡ source ∷ sources → CompilesSource source before image → IsOnlyRead 1 before middle → RefusesCores 0 sources middle after status name → RefusesCores 0 all before after status name
 later_refused source sources all before middle after image status name is first read refuses =
-    subst (λ a. RefusesCores a before after status name) (sym is) (inr (image, first, cores_kept 1 sources before middle after status name read refuses))
+    subst (λ a. RefusesCores 0 a before after status name) (sym is) (inr (image, first, cores_kept 1 0 sources before middle after status name read refuses))
 
 pub first_refused : (source : List ℕ) (sources all : List (List ℕ)) (before after : FolderState) (status told : Status) (name called : List ℕ) →
-    all ≡ source ∷ sources → IsRefusedSource source before after told called → status ≡ told → name ≡ core_named source told called → RefusesCores all before after status name
-first_refused source sources all before after status told name called is refused same named =
-    subst (λ a. RefusesCores a before after status name) (sym is) (subst (λ s. RefusesCores (source ∷ sources) before after s name) (sym same) (inl (called, refused, named)))
+    all ≡ source ∷ sources → IsOnlyRead 1 before after → IsRefusedSource source before after told called → status ≡ told → name ≡ core_named source told called → RefusesCores 0 all before after status name
+first_refused source sources all before after status told name called is read refused same names =
+    subst (λ a. RefusesCores 0 a before after status name) (sym is) (subst (λ s. RefusesCores 0 (source ∷ sources) before after s name) (sym same) (inl (read, (called, refused, names))))
 
-pub wanting : (sources : List (List ℕ)) (before after : FolderState) (answer : Answer) → 1 ≤ length sources → answer ≡ record { status = OutOfMemory; name = None } →
-    RefusesCores sources before after answer.status (named answer.name)
-wanting [] before after answer some is = absurd (omega arith)
-wanting (source ∷ sources) before after answer some is = subst (λ a. RefusesCores (source ∷ sources) before after a.status (named a.name)) (sym is) (inl ([], tt, refl))
+pub wanting : (sources : List (List ℕ)) (before after : FolderState) (answer : Answer) → 1 ≤ length sources → IsOnlyRead 1 before after → answer ≡ record { status = OutOfMemory; name = None } →
+    RefusesCores 0 sources before after answer.status (named answer.name)
+wanting [] before after answer some read is = absurd (omega arith)
+wanting (source ∷ sources) before after answer some read is = subst (λ a. RefusesCores 0 (source ∷ sources) before after a.status (named a.name)) (sym is) (inl (read, ([], tt, refl)))
+
+-- memory is wanting behind the last of the sources
+wanting_behind : (calls : ℕ) (sources : List (List ℕ)) (before after : FolderState) (images : List Content) (name : List ℕ) → CompileEach sources before images → IsOnlyRead (calls + length sources) before after →
+    RefusesCores calls sources before after OutOfMemory name
+wanting_behind calls [] before after images name each read = (subst (λ k. IsOnlyRead k before after) (omega arith) read, refl)
+wanting_behind calls (source ∷ sources) before after images name (image, others, same, first, rest) read =
+    inr (image, first, wanting_behind (suc calls) sources before after others name rest (subst (λ k. IsOnlyRead k before after) (omega arith) read))
 
 -- there are as many images as sources
 pub as_many : (sources : List (List ℕ)) (before : FolderState) (images : List Content) → CompileEach sources before images → length images ≡ length sources
@@ -154,36 +163,27 @@ nets_unread file before after status answer is read refused console out =
 
 -- the folder was read for the net file, and then for so many cores
 all_read : (before middle after : FolderState) (net : NetPlan) (sources : List (List ℕ)) (cores : ℕ) →
-    IsOnlyRead 1 before middle → sources ≡ net.cores → cores ≡ length sources → IsOnlyRead cores middle after → ReadsOnce net before after
+    IsOnlyRead 1 before middle → sources ≡ net.cores → cores ≡ length sources → IsOnlyRead cores middle after → IsOnlyRead (1 + length net.cores) before after
 all_read before middle after net sources cores first same count second =
     let many : length sources ≡ length net.cores = ap length same in
     read_then 1 cores (1 + length net.cores) before middle after (omega arith) first second
 
-pub nets_refused : (file : List ℕ) (before after : Surroundings) (middle : FolderState) (net : NetPlan) (sources : List (List ℕ)) (cores : ℕ) (status : Status) (name : List ℕ) →
-    IsOnlyRead 1 before.folder middle → IsNetFile file before.folder net → sources ≡ net.cores → cores ≡ length sources → IsOnlyRead cores middle after.folder →
-    RefusesCores sources middle after.folder status name → after.console ≡ before.console → after.out ≡ before.out → Nets file before after status name
+pub nets_refused : (file : List ℕ) (before after : Surroundings) (middle : FolderState) (net : NetPlan) (sources : List (List ℕ)) (status : Status) (name : List ℕ) →
+    IsOnlyRead 1 before.folder middle → IsNetFile file before.folder net → sources ≡ net.cores →
+    RefusesCores 0 sources middle after.folder status name → after.console ≡ before.console → after.out ≡ before.out → Nets file before after status name
 unfolding Nets
-nets_refused file before after middle net sources cores status name first is same count second refuses console out = (
-  console,
-  inl (
-    inr (
-      net,
-      is,
-      all_read before.folder middle after.folder net sources cores first same count second,
-      cores_kept 1 net.cores before.folder middle after.folder status name first (subst (λ s. RefusesCores s middle after.folder status name) same refuses),
-    ),
-    out,
-  ),
-)
+nets_refused file before after middle net sources status name first is same refuses console out =
+    let refused : RefusesCores 0 net.cores middle after.folder status name = subst (λ s. RefusesCores 0 s middle after.folder status name) same refuses in
+    (console, inl (inr (net, is, cores_kept 1 0 net.cores before.folder middle after.folder status name first refused), out))
 
-pub nets_without_memory : (file : List ℕ) (before after : Surroundings) (middle : FolderState) (net : NetPlan) (sources : List (List ℕ)) (cores : ℕ) (answer : Answer) →
+pub nets_without_memory : (file : List ℕ) (before after : Surroundings) (middle : FolderState) (net : NetPlan) (sources : List (List ℕ)) (images : List Content) (cores : ℕ) (answer : Answer) →
     answer ≡ record { status = OutOfMemory; name = None } → IsOnlyRead 1 before.folder middle → IsNetFile file before.folder net → sources ≡ net.cores → cores ≡ length sources → IsOnlyRead cores middle after.folder →
-    after.console ≡ before.console → after.out ≡ before.out → Nets file before after answer.status (named answer.name)
+    CompileEach sources middle images → after.console ≡ before.console → after.out ≡ before.out → Nets file before after answer.status (named answer.name)
 unfolding Nets
-nets_without_memory file before after middle net sources cores answer is first found same count second console out =
-    let several : 2 ≤ length net.cores = found.is_net.sound.several in
+nets_without_memory file before after middle net sources images cores answer is first found same count second each console out =
     let read = all_read before.folder middle after.folder net sources cores first same count second in
-    (console, inl (inr (net, found, read, wanting net.cores before.folder after.folder answer (omega arith) is), out))
+    let compiled : CompileEach net.cores before.folder images = each_kept net.cores before.folder middle images first.files (subst (λ s. CompileEach s middle images) same each) in
+    subst (λ a. Nets file before after a.status (named a.name)) (sym is) (console, inl (inr (net, found, wanting_behind 1 net.cores before.folder after.folder images [] compiled read), out))
 
 pub nets_run : (file : List ℕ) (before after : Surroundings) (middle : FolderState) (net : NetPlan) (sources : List (List ℕ)) (images built : List Content) (cores : ℕ) (lines : List ℕ) (ran status : Status) (answer : Answer) →
     answer ≡ record { status = status; name = None } → IsOnlyRead 1 before.folder middle → IsNetFile file before.folder net → sources ≡ net.cores → cores ≡ length sources → IsOnlyRead cores middle after.folder →

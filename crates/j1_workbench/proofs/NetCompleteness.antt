@@ -1,5 +1,5 @@
 -- Each net file has its one answer, where nothing outside fails.
-use Rattle.std.proofs.Common.{◌≡◌, ◌⊎◌, inl, inr, ℕ, ◌≤◌, List, [], ◌∷◌, length, map, refl, sym, ap, ◌∙◌, subst, arith}
+use Rattle.std.proofs.Common.{◌≡◌, ◌⊎◌, inl, inr, ℕ, suc, ◌≤◌, List, [], ◌∷◌, length, map, refl, sym, ap, ◌∙◌, subst, arith}
 use Rattle.std.specs.Prelude.{Option}
 use Rattle.outside_io.specs.Causes.{Rose}
 use Rattle.outside_io.specs.Files.{Files}
@@ -71,25 +71,25 @@ or_wanting : (status : Status) (P : Type 0) (A : Type 0) → (status ≡ OutOfMe
 or_wanting status P A (inl wanting) h = inl wanting
 or_wanting status P A (inr found) h = inr (h found)
 
-cores_refused : OneRefusal → (sources : List (List ℕ)) (before after : FolderState) (status refusal : Status) (name : List ℕ) → (Rose before.read_faults after.read_faults → ⊥) →
-    RefusesCores sources before after status name → IsFirstRefused before.files sources refusal → (status ≡ OutOfMemory) ⊎ (status ≡ refusal)
-cores_refused one [] before after status refusal name calm refuses first = absurd refuses
-cores_refused one (source ∷ sources) before after status refusal name calm (inl (called, refused, is)) (inl (text, other, told, bad)) =
+cores_refused : OneRefusal → (calls : ℕ) (sources : List (List ℕ)) (before after : FolderState) (status refusal : Status) (name : List ℕ) → (Rose before.read_faults after.read_faults → ⊥) →
+    RefusesCores calls sources before after status name → IsFirstRefused before.files sources refusal → (status ≡ OutOfMemory) ⊎ (status ≡ refusal)
+cores_refused one calls [] before after status refusal name calm (read, wanting) first = inl wanting
+cores_refused one calls (source ∷ sources) before after status refusal name calm (inl (read, (called, refused, is))) (inl (text, other, told, bad)) =
     or_wanting status _ _ (refused_source source text before after status called told calm refused) (λ found. one_refusal one text status refusal called other found bad)
-cores_refused one (source ∷ sources) before after status refusal name calm (inl (called, refused, is)) (inr (text, program, certificate, told, good, later)) =
+cores_refused one calls (source ∷ sources) before after status refusal name calm (inl (read, (called, refused, is))) (inr (text, program, certificate, told, good, later)) =
     or_wanting status _ _ (refused_source source text before after status called told calm refused) (λ found. absurd (refused_not_certified text status called program certificate found good))
-cores_refused one (source ∷ sources) before after status refusal name calm (inr (image, compiles, rest)) (inl (text, other, told, bad)) =
+cores_refused one calls (source ∷ sources) before after status refusal name calm (inr (image, compiles, rest)) (inl (text, other, told, bad)) =
     absurd (refused_not_certified text refusal other compiles.program compiles.certificate bad (certified source text before image told compiles))
-cores_refused one (source ∷ sources) before after status refusal name calm (inr (image, compiles, rest)) (inr (text, program, certificate, told, good, later)) =
-    cores_refused one sources before after status refusal name calm rest later
+cores_refused one calls (source ∷ sources) before after status refusal name calm (inr (image, compiles, rest)) (inr (text, program, certificate, told, good, later)) =
+    cores_refused one (suc calls) sources before after status refusal name calm rest later
 
-cores_certified : (sources : List (List ℕ)) (before after : FolderState) (status : Status) (name : List ℕ) (programs : List SourceProgram) (A : Type 0) → (Rose before.read_faults after.read_faults → ⊥) →
-    RefusesCores sources before after status name → AllCertified before.files sources programs → (status ≡ OutOfMemory) ⊎ A
-cores_certified [] before after status name programs A calm refuses all = absurd refuses
-cores_certified (source ∷ sources) before after status name programs A calm (inl (called, refused, is)) (text, program, certificate, others, same, told, good, rest) =
+cores_certified : (calls : ℕ) (sources : List (List ℕ)) (before after : FolderState) (status : Status) (name : List ℕ) (programs : List SourceProgram) (A : Type 0) → (Rose before.read_faults after.read_faults → ⊥) →
+    RefusesCores calls sources before after status name → AllCertified before.files sources programs → (status ≡ OutOfMemory) ⊎ A
+cores_certified calls [] before after status name programs A calm (read, wanting) all = inl wanting
+cores_certified calls (source ∷ sources) before after status name programs A calm (inl (read, (called, refused, is))) (text, program, certificate, others, same, told, good, rest) =
     or_wanting status _ _ (refused_source source text before after status called told calm refused) (λ found. absurd (refused_not_certified text status called program certificate found good))
-cores_certified (source ∷ sources) before after status name programs A calm (inr (image, compiles, later)) (text, program, certificate, others, same, told, good, rest) =
-    cores_certified sources before after status name others A calm later rest
+cores_certified calls (source ∷ sources) before after status name programs A calm (inr (image, compiles, later)) (text, program, certificate, others, same, told, good, rest) =
+    cores_certified (suc calls) sources before after status name others A calm later rest
 
 images_refused : (sources : List (List ℕ)) (before : FolderState) (images : List Content) (refusal : Status) → CompileEach sources before images → IsFirstRefused before.files sources refusal → ⊥
 images_refused [] before images refusal each first = first
@@ -136,15 +136,15 @@ unfolding Nets
 nets_complete one laws file text before after status name (console, inl (inl (read, refused, none), out)) told calm =
     by_file before.folder.files text status
     (by_refusal 65536 IsBadNet HasNet (nets_apart laws) text status (λ s. ⊥) (refused_file 65536 IsBadNet file text before.folder after.folder status told calm.folder refused))
-nets_complete one laws file text before after status name (console, inl (inr (net, is_in, read, refuses), out)) told calm =
+nets_complete one laws file text before after status name (console, inl (inr (net, is_in, refuses), out)) told calm =
     let good = told_net file text before.folder net told is_in in
     record {
       too_large = λ long. absurd (omega (arith, good.0));
       bad = λ line short first. absurd (net_not_bad laws text net line good.1 first);
       refused = λ other refusal short is first.
-          cores_refused one net.cores before.folder after.folder status refusal name calm.folder refuses (subst (λ (n : NetPlan). IsFirstRefused before.folder.files n.cores refusal) (one_net laws text net other good.1 is) first);
+          cores_refused one 1 net.cores before.folder after.folder status refusal name calm.folder refuses (subst (λ (n : NetPlan). IsFirstRefused before.folder.files n.cores refusal) (one_net laws text net other good.1 is) first);
       run = λ other programs short is all.
-          cores_certified net.cores before.folder after.folder status name programs _ calm.folder refuses (subst (λ (n : NetPlan). AllCertified before.folder.files n.cores programs) (one_net laws text net other good.1 is) all);
+          cores_certified 1 net.cores before.folder after.folder status name programs _ calm.folder refuses (subst (λ (n : NetPlan). AllCertified before.folder.files n.cores programs) (one_net laws text net other good.1 is) all);
     }
 nets_complete one laws file text before after status name (console, inr ran) told calm =
     let good = told_net file text before.folder ran.net told ran.is_in in

@@ -4,8 +4,8 @@ use Rattle.std.specs.Io.KnownBytes.{Appends}
 use Rattle.outside_io.specs.Bytes.{AppendsFront}
 use Rattle.outside_io.specs.Causes.{Rose}
 use Rattle.j1_workbench.specs.declared.status.Status.{Status}
-use Rattle.j1_workbench.specs.declared.status.Status.TheVariants.{Done, BadWords, WriteFault, NotYet}
-use Rattle.j1_workbench.specs.Words.{Request, Run, Build, Execute, ListImage, Assemble, Certify, Bound, Net, Evaluate, Make, request_of, steps_allowed}
+use Rattle.j1_workbench.specs.declared.status.Status.TheVariants.{Done, BadWords, WriteFault}
+use Rattle.j1_workbench.specs.Words.{Request, Run, Build, Execute, ListImage, Assemble, Certify, Bound, Net, Evaluate, Forth, Make, request_of, steps_allowed}
 use Rattle.j1_workbench.specs.Notes.{note_of}
 use Rattle.j1_workbench.specs.Surroundings.{Stream, Surroundings}
 use Rattle.j1_workbench.specs.Running.{Runs}
@@ -17,10 +17,11 @@ use Rattle.j1_workbench.specs.Certifying.{Certifies}
 use Rattle.j1_workbench.specs.Bounding.{Bounds}
 use Rattle.j1_workbench.specs.Networking.{Nets}
 use Rattle.j1_workbench.specs.Evaluating.{Evaluates}
+use Rattle.j1_workbench.specs.Serving.{session_steps, Serves}
 use Rattle.j1_workbench.specs.Making.{Makes}
 
--- what each command does and answers, its note aside, which may name a definition or a file. Words without the form of a command, and commands
--- that are not built, leave everything as it was
+-- what each command does and answers, its note aside, which may name a definition or a file. Words without the form of a command leave
+-- everything as it was
 unfoldable pub Does : Option Request → Surroundings → Surroundings → Status → List ℕ → Type 0
 Does None before after status name = (status ≡ BadWords) × (after ≡ before)
 Does (Some (Run source steps)) before after status name = Runs source (steps_allowed steps) before after status name
@@ -33,7 +34,7 @@ Does (Some (Bound source)) before after status name = Bounds source before after
 Does (Some (Net file)) before after status name = Nets file before after status name
 Does (Some (Evaluate source steps)) before after status name = Evaluates source (steps_allowed steps) before after status name
 Does (Some (Make seed count)) before after status name = Makes seed count (steps_allowed None) before after status
-Does (Some request) before after status name = (status ≡ NotYet) × (after ≡ before)
+Does (Some (Forth steps)) before after status name = Serves (session_steps steps) before after status
 
 -- the notes gain this line, and the answer stands. Where they can't be written, they gain a beginning of it, and the answer is
 -- WriteFault. Done has no line, and leaves the notes alone

@@ -18,6 +18,7 @@ use Rattle.j1_workbench.specs.Driving.{IsRunAnswer, Drives}
 use Rattle.j1_workbench.specs.Building.{Builds}
 use Rattle.j1_workbench.specs.Images.{IsBadImage}
 use Rattle.j1_workbench.specs.Executing.{RunsImage, Executes}
+use Rattle.j1_workbench.specs.Serving.{IsSessionAnswer, Serves}
 use Rattle.j1_workbench.specs.ListingImage.{Lists}
 use Rattle.j1_workbench.specs.Making.{Makes}
 use Rattle.j1_workbench.specs.Assembling.{IsBadListing, AssemblesFile}
@@ -118,6 +119,7 @@ pub record AnswersAreComplete : Type 0 where
   pub assemble : (listing file text : List ℕ) (before after : Surroundings) (status : Status) →
       AssemblesFile listing file before after status → Tells before.folder.files listing text → FailsNowhere before after → (Rose before.folder.write_faults after.folder.write_faults → ⊥) →
       IsCompleteFile 524288 IsBadListing (λ text. (image : Content) × Assembles text image) text status (λ s. s ≡ Done)
+  pub forth : (steps : ℕ) (before after : Surroundings) (status : Status) → Serves steps before after status → FailsNowhere before after → (status ≡ OutOfMemory) ⊎ IsSessionAnswer status
   -- `make` answers Done
   pub make : (seed count steps : ℕ) (before after : Surroundings) (status : Status) → Makes seed count steps before after status → FailsNowhere before after → (status ≡ OutOfMemory) ⊎ (status ≡ Done)
   -- a file that holds the bytes of an image, as `build` writes them, is run as that image: so `exec` does what `run` does

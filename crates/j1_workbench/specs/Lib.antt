@@ -12,6 +12,7 @@ pub mod Running
 pub mod Building
 pub mod Images
 pub mod Executing
+pub mod Serving
 pub mod Certifying
 pub mod Bounding
 pub mod Networking

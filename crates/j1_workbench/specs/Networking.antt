@@ -1,5 +1,5 @@
 -- `net FILE`: the sources of a net file are compiled, their images run as an array of cores, and what each core printed is written to out.
-use Rattle.std.specs.Prelude.{◌≡◌, ◌⊎◌, ◌+◌, ℕ, Bool, true, false, if◌then◌else◌, List, [], ◌∷◌, length}
+use Rattle.std.specs.Prelude.{◌≡◌, ◌⊎◌, ◌+◌, ℕ, suc, Bool, true, false, if◌then◌else◌, List, [], ◌∷◌, length}
 use Rattle.std.specs.List.{list_all}
 use Rattle.j1_table.specs.Image.{Content}
 use Rattle.j1_simulator.specs.MachineState.{MachineState}
@@ -10,7 +10,7 @@ use Rattle.net_file.specs.FirstBad.{IsFirstBadLine}
 use Rattle.net_file.specs.Schedule.{schedule_of}
 use Rattle.net_file.specs.Output.{core_lines}
 use Rattle.j1_workbench.specs.declared.status.Status.{Status}
-use Rattle.j1_workbench.specs.declared.status.Status.TheVariants.{Done, Missing, WriteFault, TooLarge, BadNet}
+use Rattle.j1_workbench.specs.declared.status.Status.TheVariants.{Done, Missing, WriteFault, OutOfMemory, TooLarge, BadNet}
 use Rattle.j1_workbench.specs.Surroundings.{FolderState, Stream, Surroundings, IsOnlyRead}
 use Rattle.j1_workbench.specs.Files.{IsRead, IsRefusedFile}
 use Rattle.j1_workbench.specs.Sources.{IsRefusedSource}
@@ -47,11 +47,13 @@ abbrev pub RefusesCore : List ℕ → FolderState → FolderState → Status →
 RefusesCore source before after status name =
     (called : List ℕ) × IsRefusedSource source before after status called × (name ≡ core_named source status called)
 
--- the source file of one core is refused, and those of the cores before it have images
-abbrev pub RefusesCores : List (List ℕ) → FolderState → FolderState → Status → List ℕ → Type 0
-RefusesCores [] before after status name = ⊥
-RefusesCores (source ∷ sources) before after status name =
-    RefusesCore source before after status name ⊎ ((image : Content) × CompilesSource source before image × RefusesCores sources before after status name)
+-- the source file of one core is refused, and those of the cores before it have images; or all have, and memory was wanting then. After so
+-- many calls of the folder, each source file up to that of the refused core was read at most once, and no other
+abbrev pub RefusesCores : ℕ → List (List ℕ) → FolderState → FolderState → Status → List ℕ → Type 0
+RefusesCores calls [] before after status name = IsOnlyRead calls before after × (status ≡ OutOfMemory)
+RefusesCores calls (source ∷ sources) before after status name =
+    (IsOnlyRead (suc calls) before after × RefusesCore source before after status name)
+    ⊎ ((image : Content) × CompilesSource source before image × RefusesCores (suc calls) sources before after status name)
 
 -- the array of these images after the schedule of the net
 abbrev pub net_run : NetPlan → List Content → Network MachineState
@@ -81,21 +83,18 @@ net_output net images = core_lines (length net.cores) 0 (net_run net images).pri
 abbrev pub WritesThen : Stream → Stream → List ℕ → Status → Status → Type 0
 WritesThen before after text ran status = (Writes before after text Done × (status ≡ ran)) ⊎ (Writes before after text WriteFault × (status ≡ WriteFault))
 
--- the net file and the source of each core were read at most once
-abbrev pub ReadsOnce : NetPlan → FolderState → FolderState → Type 0
-ReadsOnce net before after = IsOnlyRead (1 + length net.cores) before after
-
 -- the net file is refused, or the source of one of its cores
 abbrev pub RefusesNet : List ℕ → FolderState → FolderState → Status → List ℕ → Type 0
 RefusesNet file before after status name =
     (IsOnlyRead 1 before after × IsRefusedFile 65536 IsBadNet file before after status × (name ≡ []))
-    ⊎ ((net : NetPlan) × IsNetFile file before net × ReadsOnce net before after × RefusesCores net.cores before after status name)
+    ⊎ ((net : NetPlan) × IsNetFile file before net × RefusesCores 1 net.cores before after status name)
 
 -- the cores were run, and what each printed was written
 pub record RunsNet (file : List ℕ) (before after : Surroundings) (status : Status) : Type 0 where
   pub net : NetPlan
   pub is_in : IsNetFile file before.folder net
-  pub reads : ReadsOnce net before.folder after.folder
+  -- the net file and the source of each core were read at most once
+  pub reads : IsOnlyRead (1 + length net.cores) before.folder after.folder
   pub images : List Content
   pub compiled : CompileEach net.cores before.folder images
   pub writes : WritesThen before.out after.out (net_output net images) (net_status net images) status

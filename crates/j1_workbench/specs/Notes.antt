@@ -9,7 +9,7 @@ use Rattle.step_certifier.specs.declared.bound.BoundCause.{BoundCause}
 use Rattle.step_certifier.specs.declared.bound.BoundCause.TheVariants as bound
 use Rattle.j1_workbench.specs.declared.status.Status.{Status}
 use Rattle.j1_workbench.specs.declared.status.Status.TheVariants.{Done, BadWords, Missing, SourceRefused, NotCertified, StepsUsed, InputEnded, Outside, Halted}
-use Rattle.j1_workbench.specs.declared.status.Status.TheVariants.{ReadFault, WriteFault, OutOfMemory, TooLarge, Underflow, Unbalanced, NotYet, BadImage, BadListing, BoundRefused, BadNet}
+use Rattle.j1_workbench.specs.declared.status.Status.TheVariants.{ReadFault, WriteFault, OutOfMemory, TooLarge, Underflow, Unbalanced, BadImage, BadListing, BoundRefused, BadNet}
 
 -- the file that is read: the word behind the command
 abbrev pub file_named : List (List ℕ) → List ℕ
@@ -98,6 +98,5 @@ note_of words OutOfMemory name = line (codes "out of memory" ∷ [])
 note_of words TooLarge name = line (noted_file words name ∷ codes ": too large" ∷ [])
 note_of words Underflow name = line (codes "underflow" ∷ [])
 note_of words Unbalanced name = line (codes "unbalanced" ∷ [])
-note_of words NotYet name = line (codes "not yet" ∷ [])
 note_of words (BoundRefused id cause) name = line (name ∷ unbounded cause ∷ [])
 note_of words (BadNet number) name = line (codes "net line " ∷ decimal number ∷ [])

@@ -2,7 +2,7 @@
 use Rattle.std.specs.Prelude.{ℕ, zero, suc, Option, Some, None}
 use Rattle.j1_workbench.specs.declared.status.Status.{Status}
 use Rattle.j1_workbench.specs.declared.status.Status.TheVariants.{Done, BadWords, Missing, SourceRefused, NotCertified, StepsUsed, InputEnded, Outside, Halted}
-use Rattle.j1_workbench.specs.declared.status.Status.TheVariants.{ReadFault, WriteFault, OutOfMemory, TooLarge, Underflow, Unbalanced, NotYet, BadImage, BadListing, BoundRefused, BadNet}
+use Rattle.j1_workbench.specs.declared.status.Status.TheVariants.{ReadFault, WriteFault, OutOfMemory, TooLarge, Underflow, Unbalanced, BadImage, BadListing, BoundRefused, BadNet}
 use Rattle.j1_simulator.specs.declared.ends.End.{End}
 use Rattle.j1_simulator.specs.declared.ends.End.TheVariants as ends
 
@@ -24,7 +24,6 @@ number_of OutOfMemory = 12
 number_of TooLarge = 13
 number_of Underflow = 14
 number_of Unbalanced = 14
-number_of NotYet = 15
 number_of (BoundRefused id cause) = 16
 number_of (BadNet line) = 17
 

@@ -16,6 +16,7 @@ use crate::listing_image::list;
 use crate::making::make;
 use crate::networking::net;
 use crate::running::run;
+use crate::serving::{serve, session_steps};
 use crate::status::Status;
 use crate::words::{Command, command_of};
 use outside_io::{Folder, Sink, Source};
@@ -33,7 +34,7 @@ fn steps_allowed(steps: Option<u32>) -> u64
 }
 
 /// Does what the words of a command line ask for, but for the note.
-#[tactic(auto, using(crate::proofs::Commands::does_nothing, crate::proofs::Commands::does_run, crate::proofs::Commands::does_certify, crate::proofs::Commands::does_bound, crate::proofs::Commands::does_evaluate, crate::proofs::Commands::does_execute, crate::proofs::Commands::does_not_yet))]
+#[tactic(auto, using(crate::proofs::Commands::does_nothing, crate::proofs::Commands::does_run, crate::proofs::Commands::does_certify, crate::proofs::Commands::does_bound, crate::proofs::Commands::does_evaluate, crate::proofs::Commands::does_execute, crate::proofs::Commands::does_forth))]
 pub fn answer<F: Folder, C: Source, O: Sink>(
     alloc: Global,
     words: &[String],
@@ -67,7 +68,9 @@ pub fn answer<F: Folder, C: Source, O: Sink>(
         Some(Command::Evaluate { source, steps }) => {
             evaluate_source(alloc, source, steps_allowed(steps), files, console, out)
         }
-        Some(Command::Forth { .. }) => answered(Status::NotYet),
+        Some(Command::Forth { steps }) => {
+            answered(serve(alloc, session_steps(steps), console, out))
+        }
         Some(Command::Make { seed, count }) => {
             make(alloc, seed, count, steps_allowed(None), out)
         }

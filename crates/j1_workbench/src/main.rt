@@ -21,6 +21,7 @@ mod networking;
 mod notes;
 mod reading;
 mod running;
+mod serving;
 mod source;
 mod status;
 #[cfg(test)]

@@ -77,7 +77,7 @@ fn add_images<F: Folder>(
         let after = folder (F.files files.new) (F.calls files.new) (F.read_faults files.new) (F.write_faults files.new) (F.absences files.new) in
         MatchResult result
         (λ done. (more : List Content) × (images.new.items ≡ images.old.items ++ more) × CompileEach (map string_bytes sources.now) before more)
-        (λ answer. RefusesCores (map string_bytes sources.now) before after answer.status (named answer.name)) }
+        (λ answer. RefusesCores 0 (map string_bytes sources.now) before after answer.status (named answer.name)) }
 {
     match sources {
         [] => Ok(()),

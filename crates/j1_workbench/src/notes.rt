@@ -191,7 +191,6 @@ pub fn write_note<N: Sink>(
         }
         Status::Underflow => write_line(notes, &[b"underflow"]),
         Status::Unbalanced => write_line(notes, &[b"unbalanced"]),
-        Status::NotYet => write_line(notes, &[b"not yet"]),
         Status::BoundRefused(_, cause) => write_unbounded(notes, name, cause),
         Status::BadNet(line) => {
             write_line(notes, &[b"net line ", digits.format(line).as_bytes()])

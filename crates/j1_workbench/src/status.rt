@@ -44,8 +44,6 @@ pub enum Status {
     Underflow,
     /// A word found other return entries than it needs, or a body ended with entries left; from an evaluation alone.
     Unbalanced,
-    /// The command is not built yet.
-    NotYet,
     /// The program has no step bound: the definition of the first item without one, and why.
     BoundRefused(DefId, BoundCause),
     /// The file is no net file: its first bad line.
@@ -73,7 +71,6 @@ pub fn status_number(status: &Status) -> u8
         Status::TooLarge => 13,
         Status::Underflow => 14,
         Status::Unbalanced => 14,
-        Status::NotYet => 15,
         Status::BoundRefused(_, _) => 16,
         Status::BadNet(_) => 17,
     }

@@ -7,7 +7,7 @@ use Rattle.j1_workbench.proofs.networking.+add_images.Goals as goal
 
 pub returns-then-is_err-clause-found : goal.returns-then-is_err-clause-found
 returns-then-is_err-clause-found g t c =
-    wanting (map string_bytes c.args.sources.now) _ _ c.answered.result (omega (arith, length-map c.args.sources.now string_bytes, c.in-len1-up.len_at_least)) c.answered.ensures
+    wanting (map string_bytes c.args.sources.now) _ _ c.answered.result (omega (arith, length-map c.args.sources.now string_bytes, c.in-len1-up.len_at_least)) c.compiled_source.ensures.read c.answered.ensures
 
 pub returns-else-is_err-clause-found : goal.returns-else-is_err-clause-found
 returns-else-is_err-clause-found g t c =

@@ -9,8 +9,8 @@ returns-in-Err g c = λ console. nets_unread c.args.file.now _ _ c.in-Err.status
 
 pub returns-in-Err-add_images : goal.returns-in-Err-add_images
 returns-in-Err-add_images g c = λ console.
-    nets_refused c.args.file.now _ _ _ c.in-Ok.net (map string_bytes c.cores.result.now) (length c.cores.result.now) c.in-Err-add_images.answer.status (named c.in-Err-add_images.answer.name)
-    c.net_in.ensures.read c.in-Ok.ensures.found c.cores.ensures (sym (length-map c.cores.result.now string_bytes)) c.add_images.ensures.read c.in-Err-add_images.ensures.found refl refl
+    nets_refused c.args.file.now _ _ _ c.in-Ok.net (map string_bytes c.cores.result.now) c.in-Err-add_images.answer.status (named c.in-Err-add_images.answer.name)
+    c.net_in.ensures.read c.in-Ok.ensures.found c.cores.ensures c.in-Err-add_images.ensures.found refl refl
 
 pub run_cores-requires-clause-images : goal.run_cores-requires-clause-images
 run_cores-requires-clause-images g c =
@@ -28,5 +28,6 @@ returns-in-Ok-run_cores g c = λ console.
 
 pub returns : goal.returns
 returns g c = λ console.
-    nets_without_memory c.args.file.now _ _ _ c.in-Ok.net (map string_bytes c.cores.result.now) (length c.cores.result.now) c.answered-in-Err-run_cores.result
-    c.answered-in-Err-run_cores.ensures c.net_in.ensures.read c.in-Ok.ensures.found c.cores.ensures (sym (length-map c.cores.result.now string_bytes)) c.add_images.ensures.read refl refl
+    let found = c.in-Ok-add_images.ensures.found in
+    nets_without_memory c.args.file.now _ _ _ c.in-Ok.net (map string_bytes c.cores.result.now) found.0 (length c.cores.result.now) c.answered-in-Err-run_cores.result
+    c.answered-in-Err-run_cores.ensures c.net_in.ensures.read c.in-Ok.ensures.found c.cores.ensures (sym (length-map c.cores.result.now string_bytes)) c.add_images.ensures.read found.2 refl refl
