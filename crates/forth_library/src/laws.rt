@@ -10,9 +10,12 @@ ghost use Rattle.control_flow.specs.ParseResult.{Fine};
 ghost use Rattle.control_flow.specs.SourceText.{program_of_text};
 ghost use Rattle.forth_library.specs.Certified.{LibraryIsCertified};
 ghost use Rattle.forth_library.specs.Definitions.{library_definitions, library_text};
-ghost use Rattle.forth_library.specs.Linked.{LinkedImagesAgree};
+ghost use Rattle.forth_library.specs.Linked.{LinkedImagesAgree, SourcesAreBuilt};
 
-use code_layout::{chips_agree, images_agree, last_calls_are_jumps};
+use code_layout::{
+    chips_agree, code_is_light, images_agree, items_are_light, last_calls_are_jumps,
+};
+use control_flow::tests_widen;
 use depth_certifier::rounds_judge;
 use library_laws::definitions_do_their_meaning;
 
@@ -38,6 +41,16 @@ pub fn library_is_certified()
     ensures { LibraryIsCertified }
 {
     rounds_judge();
+}
+
+/// Each program of a text, a source or a kernel, can be laid out with the whole library.
+pub fn sources_are_built()
+    ensures { SourcesAreBuilt }
+{
+    tests_widen();
+    code_is_light();
+    items_are_light();
+    library_means();
 }
 
 /// With the whole library the images of programs do what the programs mean, on the open machine and on the chip, and their last calls

@@ -6,5 +6,8 @@
 mod laws;
 mod linking;
 
-pub use laws::{library_is_certified, library_means, library_text_is_read, linked_images_agree};
+pub use laws::{
+    library_is_certified, library_means, library_text_is_read, linked_images_agree,
+    sources_are_built,
+};
 pub use linking::{library_program, linked_image};

@@ -9,6 +9,7 @@ use Rattle.forth_program.specs.Program.{SourceProgram}
 use Rattle.library_laws.specs.Bodies.{whole_library}
 use Rattle.code_layout.specs.Built.{IsBuilt}
 use Rattle.code_layout.specs.Agreement.{AreBytes}
+use Rattle.word_table.specs.declared.word.Vocabulary.TheVariants.{Source}
 use Rattle.control_flow.specs.SourceLaw.{EachProgramIsSource}
 use Rattle.depth_certifier.specs.Certificate.{Cert, IsValid}
 use Rattle.depth_certifier.specs.CertificateText.{certificate_text}
@@ -70,7 +71,7 @@ compiled source before program certificate image laws found laid lists = record 
 
 -- its first data are bytes
 pub has_bytes : EachProgramIsSource → (text : List ℕ) (program : SourceProgram) (certificate : Cert) → HasCertificate text program certificate → AreBytes program.first_space
-has_bytes sources text program certificate found = (sources text program found.program_is).bytes
+has_bytes sources text program certificate found = (sources Source text program found.program_is).bytes
 
 -- and its certificate is valid
 pub is_valid : (source : List ℕ) (before : FolderState) (program : SourceProgram) (certificate : Cert) → IsCertifiedSource source before program certificate → IsValid program certificate

@@ -10,6 +10,7 @@ use Rattle.forth_program.specs.Tree.{Node, Literal, Plain, Call, Child}
 use Rattle.forth_program.specs.Program.{SourceProgram}
 use Rattle.control_flow.specs.ParseResult.{ParseResult, Fine, Refused, Endless}
 use Rattle.control_flow.specs.SourceText.{program_of_text}
+use Rattle.word_table.specs.declared.word.Vocabulary.TheVariants.{Source}
 use Rattle.control_flow.specs.SourceLaw.{is_read_token, EachIsJudged, EachProgramIsSource}
 use Rattle.control_flow.specs.declared.refusal.SourceCause.{SourceCause}
 use Rattle.control_flow.specs.declared.refusal.SourceRefusal.{SourceRefusal}
@@ -209,9 +210,9 @@ proper_tokens count (node ∷ nodes) e =
     All-cons ProperToken node nodes (proper_token count node both.0) (proper_tokens count nodes both.1)
 
 judged_outcome : EachIsJudged → EachProgramIsSource → RoundsEnd → RoundsFindTheLeast → RefusedHaveNone → (text : List ℕ) (outcome : ParseResult SourceProgram) → program_of_text text ≡ outcome → length text ≤ 65536 → IsJudged text
-judged_outcome each sources end least none text (Fine p) is short = judged_program end least none text p short is (proper_tokens (length p.bodies) p.tokens (sources text p is).token_items)
+judged_outcome each sources end least none text (Fine p) is short = judged_program end least none text p short is (proper_tokens (length p.bodies) p.tokens (sources Source text p is).token_items)
 judged_outcome each sources end least none text (Refused token cause) is short = inl (SourceRefused (record { token = token; cause = cause }), [], (short, is))
-judged_outcome each sources end least none text Endless is short = absurd (each text is)
+judged_outcome each sources end least none text Endless is short = absurd (each Source text is)
 
 judged : EachIsJudged → EachProgramIsSource → RoundsEnd → RoundsFindTheLeast → RefusedHaveNone → (text : List ℕ) → IsJudged text
 judged each sources end least none text =

@@ -7,7 +7,6 @@ mod FileCommands
 mod NetCommand
 mod Makes
 mod Made
-mod Built
 mod Headline
 mod FileCompleteness
 mod Completeness

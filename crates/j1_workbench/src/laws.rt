@@ -3,10 +3,10 @@ ghost use Rattle.j1_workbench.specs.Completeness.{AnswersAreComplete};
 ghost use Rattle.j1_workbench.specs.Headline.{TextsAreBuilt, CertifiedTextsAgree};
 
 use chip_laws::{certified_chips_agree, certified_chips_keep_tight};
-use code_layout::{code_is_light, items_are_light, last_calls_are_jumps};
-use control_flow::{programs_are_sources, tests_widen, texts_are_judged};
+use code_layout::last_calls_are_jumps;
+use control_flow::{programs_are_sources, texts_are_judged};
 use depth_certifier::rounds_judge;
-use forth_library::library_means;
+use forth_library::{library_means, sources_are_built};
 use image_file::{bytes_have_one_first_bad, files_are_images, refused_is_no_file};
 use j1_assembler::{assembles_by_grammar, refuses_first_bad};
 use net_file::{refuses_first_bad_line, tells_net};
@@ -16,10 +16,7 @@ pub fn texts_are_built()
     ensures { TextsAreBuilt }
 {
     programs_are_sources();
-    tests_widen();
-    code_is_light();
-    items_are_light();
-    library_means();
+    sources_are_built();
 }
 
 /// The program of each text that has a certificate does on the chip what its source means, on every input.

@@ -6,7 +6,7 @@ use Rattle.j1_workbench.proofs.FilesRead.{definition_named}
 use Rattle.j1_workbench.proofs.bounding.bound.Goals as goal
 
 pub step_bound-requires-clause-bytes : goal.step_bound-requires-clause-bytes
-step_bound-requires-clause-bytes g c = has_bytes c.programs_are_sources.ensures c.in-Ok.ensures.found.0 c.in-Ok.found.0 c.in-Ok.found.1 c.in-Ok.ensures.found.2
+step_bound-requires-clause-bytes g c = has_bytes c.programs_are_sources.ensures.each c.in-Ok.ensures.found.0 c.in-Ok.found.0 c.in-Ok.found.1 c.in-Ok.ensures.found.2
 
 pub returns-in-Ok-step_bound : goal.returns-in-Ok-step_bound
 returns-in-Ok-step_bound g c = λ console.

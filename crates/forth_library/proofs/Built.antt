@@ -1,4 +1,4 @@
--- Each program of a text can be laid out.
+-- Each program of a text can be laid out with the whole library.
 use Rattle.std.proofs.Common.{◌≡◌, ℕ, ◌+◌, ◌≤◌, IsTrue, Bool, true, false, List, [], ◌∷◌, length, refl, arith}
 use Rattle.std.specs.List.{list_all}
 use Rattle.std.proofs.lemmas.Bool.{and_from, and_parts}
@@ -6,16 +6,14 @@ use Rattle.word_table.specs.declared.word.Word.{Word}
 use Rattle.word_table.specs.declared.word.Word.TheVariants.{Dup}
 use Rattle.forth_program.specs.declared.item.TextKind.TheVariants as text
 use Rattle.forth_program.specs.Tree.{Node, Literal, Plain, Call, Child, Text}
-use Rattle.forth_program.specs.Program.{SourceProgram}
-use Rattle.forth_program.specs.Form.{everywhere, may_be_token}
+use Rattle.forth_program.specs.Form.{everywhere, may_be_token, has_no_go}
 use Rattle.control_flow.specs.Ticks.{tokens_weight}
-use Rattle.control_flow.specs.SourceLaw.{is_plain, is_read, is_read_token, TestsWiden, IsSource, EachProgramIsSource}
+use Rattle.control_flow.specs.SourceLaw.{is_plain, is_read, is_read_token, TestsWiden}
 use Rattle.library_laws.specs.Bodies.{whole_library}
-use Rattle.code_layout.specs.Layout.{routine_of, bodies_size}
-use Rattle.code_layout.specs.Places.{tokens_size}
+use Rattle.code_layout.specs.Layout.{routine_of, bodies_size, leaving_size, tokens_size}
 use Rattle.code_layout.specs.Weights.{CodeIsLight, TokensAreLight}
-use Rattle.code_layout.specs.Built.{word_is_laid_out, is_laid_out, token_is_laid_out, IsBuilt}
-use Rattle.j1_workbench.specs.Headline.{TextsAreBuilt}
+use Rattle.code_layout.specs.Built.{word_is_laid_out, is_laid_out, token_is_laid_out}
+use Rattle.forth_library.specs.Linked.{SourcesAreBuilt}
 
 -- ---- words, as the table has them
 
@@ -70,9 +68,14 @@ tokens_light light count (node ∷ nodes) e =
 
 -- ---- programs
 
+-- the code of GO has two cells
+few_leaving : (lacks_go : Bool) → leaving_size lacks_go ≤ 2
+few_leaving true = omega arith
+few_leaving false = omega arith
+
 -- the weights of a source leave room for its code
-source_built : TestsWiden → CodeIsLight → TokensAreLight → bodies_size whole_library ≡ 814 → (p : SourceProgram) → IsSource p → IsBuilt whole_library p
-source_built widen light tokens size p s =
+pub sources_built : TestsWiden → CodeIsLight → TokensAreLight → bodies_size whole_library ≡ 814 → SourcesAreBuilt
+sources_built widen light tokens size p s =
     let laid : list_all (everywhere (is_laid_out true 42 (length p.bodies))) p.bodies ≡ true = widen (is_read (length p.bodies)) (is_laid_out true 42 (length p.bodies)) (read_laid (length p.bodies)) p.bodies s.items in
     let token_items = tokens_laid (length p.bodies) p.tokens s.token_items in
     record {
@@ -81,9 +84,6 @@ source_built widen light tokens size p s =
       token_items = token_items;
       leaves_in_loops = s.form.leaves_in_loops;
       data_start = s.form.data_start;
-      code_fits = omega (arith, light whole_library p laid, size, s.light, s.form.data_start.at_least, tokens_light tokens (length p.bodies) p.tokens token_items);
+      code_fits = omega (arith, light whole_library p laid, few_leaving (has_no_go p), size, s.light, s.form.data_start.at_least, tokens_light tokens (length p.bodies) p.tokens token_items);
       tokens_counted = s.counted;
     }
-
-pub texts_built : EachProgramIsSource → TestsWiden → CodeIsLight → TokensAreLight → bodies_size whole_library ≡ 814 → TextsAreBuilt
-texts_built sources widen light tokens size text program is = source_built widen light tokens size program (sources text program is)
