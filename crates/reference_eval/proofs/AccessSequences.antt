@@ -141,6 +141,7 @@ puts m f x left (Err (stop.Halt halt.Read)) cells s t e l d = absurd (l nowhere)
 puts m f x left (Err (stop.Halt halt.Write)) cells s t e l d = absurd (l nowhere)
 puts m f x left (Err stop.Underflow) cells s t e l d = absurd (let q = l nowhere in cc)
 puts m f x left (Err stop.Unbalanced) cells s t e l d = absurd (let q = l nowhere in cc)
+puts m f x left (Err (stop.Left address)) cells s t e l d = absurd (let q = l nowhere in cc)
 puts m f x left (Err stop.OutOfMemory) cells s t e l d = lacks (λ w. m w ▸ λ y. Gives (f y)) (f x) s t (follows m (λ y. Gives (f y)) x (Gave (f x)) s t t d (gives (f x) t))
 
 -- as the code has them

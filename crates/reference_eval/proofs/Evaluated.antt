@@ -1,6 +1,7 @@
 -- From the steps of a machine to the run of its program.
 use Rattle.std.proofs.Common.{◌≡◌, ◌+◌, ◌≤◌, ℕ, ◌-◌, ◌/◌, List, [], ◌∷◌, ◌++◌, length, map, Option, None, Some, Bool, true, false, refl, sym, ap, subst, ◌∙◌, arith}
 use Rattle.std.specs.Prelude.{Result, Ok, Err, IfSome}
+use Rattle.std.specs.List.{list_all}
 use Rattle.std.proofs.lemmas.List.{append-nil}
 use Rattle.std.specs.Io.KnownBytes.{Appends, Consumes}
 use Rattle.outside_io.specs.Causes.{Rose}
@@ -9,7 +10,9 @@ use Rattle.forth_program.specs.State.{World, State, End, Outcome, Goes, Ends}
 use Rattle.forth_program.specs.State as run
 use Rattle.forth_program.specs.Program.{SourceProgram, body_of}
 use Rattle.forth_program.specs.Step.{before}
-use Rattle.forth_program.specs.Run.{steps, source_run, first_world, first_state, world_of, end_of as end_of_run}
+use Rattle.forth_program.specs.Run.{steps, source_run, first_world, first_state, world_of, leaves, end_of as end_of_run}
+use Rattle.forth_program.specs.Form.{has_no_go, may_be_token}
+use Rattle.forth_program.specs.RunLaws.{ProgramsStay}
 use Rattle.reference_eval.specs.declared.machine.Machine.{Machine}
 use Rattle.reference_eval.specs.declared.ends.End.TheVariants as end
 use Rattle.reference_eval.specs.declared.ends.EvalFinish.{EvalFinish}
@@ -24,7 +27,7 @@ use Rattle.reference_eval.specs.Outside.{MemoryState, Input, input_of, Scene, sc
 use Rattle.reference_eval.specs.Steps.{IsSame}
 use Rattle.reference_eval.specs.Answers.{Answer, Gave, Ended, ReadFailed, WriteFailed, LacksMemory, reach_of}
 use Rattle.reference_eval.specs.Machine.{state_of, RunsTo, Runs, answer_of_step, entry_of, frame_of}
-use Rattle.reference_eval.specs.Evaluation.{RanAs, RanPart, Evaluates, AnswersRun, MayBeLeftBy, in_vain, finish_of}
+use Rattle.reference_eval.specs.Evaluation.{RanAs, RanPart, Evaluates, AnswersRun, MayBeLeftBy, in_vain, HasStayed, finish_of}
 use Rattle.reference_eval.proofs.SceneSteps.{failed_both}
 
 -- ---- the start
@@ -214,6 +217,7 @@ ends_dry (Err (stop.Halt halt.Read)) took left left' h e = absurd cc
 ends_dry (Err (stop.Halt halt.Write)) took left left' h e = absurd cc
 ends_dry (Err stop.Underflow) took left left' h e = absurd cc
 ends_dry (Err stop.Unbalanced) took left left' h e = absurd cc
+ends_dry (Err (stop.Left address)) took left left' h e = absurd cc
 ends_dry (Err stop.OutOfMemory) took left left' h e = absurd cc
 
 vain_as_finished : (came : Result (Unit {0}) Stop) → asked_in_vain (reach_of (answer_of_step came)) ≤ in_vain (finish_of came)
@@ -225,6 +229,7 @@ vain_as_finished (Err (stop.Halt halt.Read)) = omega arith
 vain_as_finished (Err (stop.Halt halt.Write)) = omega arith
 vain_as_finished (Err stop.Underflow) = omega arith
 vain_as_finished (Err stop.Unbalanced) = omega arith
+vain_as_finished (Err (stop.Left address)) = omega arith
 vain_as_finished (Err stop.OutOfMemory) = omega arith
 
 read_rose : (came : Result (Unit {0}) Stop) (s t : Scene) → Caused (reach_of (answer_of_step came)) s t → finish_of came ≡ Err error.Read → Rose s.read_faults t.read_faults
@@ -234,6 +239,7 @@ read_rose (Err (stop.Halt halt.Read)) s t h e = h.0
 read_rose (Err (stop.Halt halt.Write)) s t h e = absurd cc
 read_rose (Err stop.Underflow) s t h e = absurd cc
 read_rose (Err stop.Unbalanced) s t h e = absurd cc
+read_rose (Err (stop.Left address)) s t h e = absurd cc
 read_rose (Err stop.OutOfMemory) s t h e = absurd cc
 
 write_rose : (came : Result (Unit {0}) Stop) (memory : MemoryState) (s t : Scene) → Caused (reach_of (answer_of_step came)) s t → finish_of came ≡ Err error.Write → t.memory.failed ≡ true
@@ -243,6 +249,7 @@ write_rose (Err (stop.Halt halt.Read)) memory s t h e = absurd cc
 write_rose (Err (stop.Halt halt.Write)) memory s t h e = h
 write_rose (Err stop.Underflow) memory s t h e = absurd cc
 write_rose (Err stop.Unbalanced) memory s t h e = absurd cc
+write_rose (Err (stop.Left address)) memory s t h e = absurd cc
 write_rose (Err stop.OutOfMemory) memory s t h e = absurd cc
 
 rose_before_flush : (x y z : ℕ) {b : Bool} → b ≡ true → (b ≡ true → Rose x y) → y ≤ z → Rose x z
@@ -281,6 +288,19 @@ well_answered p k (Err (stop.Halt halt.Write)) m0 n memory memory1 memory2 left 
     partly {A = Unit {0}} WriteFailed p k m0 n memory memory1 memory2 left' reads' held held1 held2 writes1 writes2 _ [] b f (on_taken _ _ p m0 memory left reads held writes _ b r.leads)
 well_answered p k (Err stop.OutOfMemory) m0 n memory memory1 memory2 left left' reads reads' held held1 held2 writes writes1 writes2 b r f e w rest h =
     partly {A = Unit {0}} LacksMemory p k m0 n memory memory1 memory2 left' reads' held held1 held2 writes1 writes2 _ rest b f (on_all _ _ p m0 memory left reads held writes _ rest b r.leads tt)
+well_answered p k (Err (stop.Left address)) m0 n memory memory1 memory2 left left' reads reads' held held1 held2 writes writes1 writes2 b r f e w rest h =
+    partly {A = Unit {0}} (Ended (run.Left address)) p k m0 n memory memory1 memory2 left' reads' held held1 held2 writes1 writes2 _ rest b f (on_all _ _ p m0 memory left reads held writes _ rest b r.leads tt)
+
+-- where no body has GO, it has not led the run out
+pub has_stayed : ProgramsStay → (p : SourceProgram) (k : ℕ) (came : Result (Unit {0}) Stop) (m0 n : Machine) (memory memory1 : MemoryState) (left left' : Input) (reads reads' : ℕ)
+    (held held1 : Option (List ℕ)) (writes writes1 : ℕ) → has_no_go p ≡ true → list_all may_be_token p.tokens ≡ true →
+    Begins p memory m0 → Runs p k came m0 n (scene memory left reads held writes) (scene memory1 left' reads' held1 writes1) → HasStayed came
+has_stayed stay p k (Err (stop.Left address)) m0 n memory memory1 left left' reads reads' held held1 writes writes1 no_go tokens b r =
+    let l = on_taken _ _ p m0 memory left reads held writes (scene memory1 left' reads' held1 writes1) b r.leads in
+    let led : leaves (source_run p r.leads.took k) ≡ true = ap leaves (ran_from p memory m0 r.leads.took k b ∙ l.is_reached) in
+    let none : leaves (source_run p r.leads.took k) ≡ false = stay p r.leads.took k no_go tokens in
+    cc
+has_stayed stay p k came m0 n memory memory1 left left' reads reads' held held1 writes writes1 no_go tokens b r = tt
 
 -- memory was wanting before the first step
 pub no_start : (p : SourceProgram) (k : ℕ) (left : Input) (reads : ℕ) (held : Option (List ℕ)) (writes : ℕ) → Evaluates p k (Err error.OutOfMemory) left left reads reads held held writes writes

@@ -58,6 +58,7 @@ off p n k (stop.Halt halt.Read) s m u between later compose stay h e f = ended_s
 off p n k (stop.Halt halt.Write) s m u between later compose stay h e f = (n + 1, h, ap world_of (one_more p n s _ _ compose e f))
 off p n k stop.Underflow s m u between later compose stay h e f = ended_step p n k s _ run.Underflow later compose stay h e f
 off p n k stop.Unbalanced s m u between later compose stay h e f = ended_step p n k s _ run.Unbalanced later compose stay h e f
+off p n k (stop.Left address) s m u between later compose stay h e f = ended_step p n k s _ (run.Left address) later compose stay h e f
 off p n k stop.OutOfMemory s m u between later compose stay h e f = wanting p n k s _ later compose h e f
 
 pub broken_off : (p : SourceProgram) (n k : ℕ) (m0 m m' : Machine) (r r' : Result (Unit {0}) Stop) (x : Stop) (s t u : Scene) → StepsCompose → EndStays → n + 1 ≤ k → r ≡ Err x → r' ≡ Err x →

@@ -45,6 +45,7 @@ acts_make meant (Err (stop.Halt halt.Read)) m n s a = absurd (a (record { data_s
 acts_make meant (Err (stop.Halt halt.Write)) m n s a = absurd (a (record { data_start = 0; space = []; input = []; printed = []; made = [] }))
 acts_make meant (Err stop.Underflow) m n s a = record { leads = stays _ s (λ before w h. a w) }
 acts_make meant (Err stop.Unbalanced) m n s a = record { leads = stays _ s (λ before w h. a w) }
+acts_make meant (Err (stop.Left address)) m n s a = record { leads = stays _ s (λ before w h. a w) }
 acts_make meant (Err stop.OutOfMemory) m n s a = record { leads = stays _ s (λ before w h. inl refl) }
 
 -- the same, where it knows where data space begins
@@ -58,6 +59,7 @@ acts_make_at meant (Err (stop.Halt halt.Read)) m n s d e a = absurd (a (record {
 acts_make_at meant (Err (stop.Halt halt.Write)) m n s d e a = absurd (a (record { data_start = d; space = []; input = []; printed = []; made = [] }) refl)
 acts_make_at meant (Err stop.Underflow) m n s d e a = record { leads = stays _ s (λ before w h. a w (h.start ∙ sym e)) }
 acts_make_at meant (Err stop.Unbalanced) m n s d e a = record { leads = stays _ s (λ before w h. a w (h.start ∙ sym e)) }
+acts_make_at meant (Err (stop.Left address)) m n s d e a = record { leads = stays _ s (λ before w h. a w (h.start ∙ sym e)) }
 acts_make_at meant (Err stop.OutOfMemory) m n s d e a = record { leads = stays _ s (λ before w h. inl refl) }
 
 -- what leaves cells and a world makes such a step
@@ -73,6 +75,7 @@ does_make reply (Err (stop.Halt halt.Read)) cells m s t d = record { leads = lea
 does_make reply (Err (stop.Halt halt.Write)) cells m s t d = record { leads = leads_as _ _ _ s t (λ before w later h r. ap (λ r. on_cells r (state_of m w)) r) d.leads }
 does_make reply (Err stop.Underflow) cells m s t d = record { leads = leads_as _ _ Whole s t (λ before w later h r. ap (λ r. on_cells r (state_of m w)) r) d.leads }
 does_make reply (Err stop.Unbalanced) cells m s t d = record { leads = leads_as _ _ Whole s t (λ before w later h r. ap (λ r. on_cells r (state_of m w)) r) d.leads }
+does_make reply (Err (stop.Left address)) cells m s t d = record { leads = leads_as _ _ Whole s t (λ before w later h r. ap (λ r. on_cells r (state_of m w)) r) d.leads }
 does_make reply (Err stop.OutOfMemory) cells m s t d = record { leads = leads_as _ _ Whole s t (λ before w later h r. inr (lacking (reply w) (state_of m w) later r)) d.leads }
 
 -- a step meant otherwise

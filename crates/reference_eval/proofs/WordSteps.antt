@@ -37,6 +37,7 @@ leaves_acts (Err (stop.Halt halt.Read)) cells reply s h = absurd h
 leaves_acts (Err (stop.Halt halt.Write)) cells reply s h = absurd h
 leaves_acts (Err stop.Underflow) cells reply s h = ap (λ r. on_cells r s) h
 leaves_acts (Err stop.Unbalanced) cells reply s h = ap (λ r. on_cells r s) h
+leaves_acts (Err (stop.Left address)) cells reply s h = ap (λ r. on_cells r s) h
 leaves_acts (Err stop.OutOfMemory) cells reply s h = tt
 
 pub word_acts : {U : Type 0} (p : SourceProgram) (word : Word) (r : Result U Stop) (cells : List ℕ) (s : State) → shape_of word ≢ shapes.Frame → Leaves r cells

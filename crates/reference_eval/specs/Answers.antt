@@ -61,6 +61,7 @@ abbrev pub stopped : {A : Type 0} → Stop → Answer A
 stopped (stop.Halt h) = halted h
 stopped stop.Underflow = Ended run.Underflow
 stopped stop.Unbalanced = Ended run.Unbalanced
+stopped (stop.Left address) = Ended (run.Left address)
 stopped stop.OutOfMemory = LacksMemory
 
 abbrev pub cells_answer : {U : Type 0} → Result U Stop → List ℕ → Answer (List ℕ)
@@ -80,6 +81,7 @@ LeavesStopped (stop.Halt halt.Read) reply w = ⊥
 LeavesStopped (stop.Halt halt.Write) reply w = ⊥
 LeavesStopped stop.Underflow reply w = reply ≡ Stops run.Underflow w
 LeavesStopped stop.Unbalanced reply w = reply ≡ Stops run.Unbalanced w
+LeavesStopped (stop.Left address) reply w = reply ≡ Stops (run.Left address) w
 LeavesStopped stop.OutOfMemory reply w = ⊤
 
 abbrev pub Leaves : {U : Type 0} → Result U Stop → List ℕ → Reply (List ℕ) → World → Type 0

@@ -72,6 +72,11 @@ pub record Evaluates (p : SourceProgram) (steps : ℕ) (result : Result EvalFini
   pub reads_failed : reads_failed_before ≤ reads_failed_after
   pub writes_failed : writes_failed_before ≤ writes_failed_after
 
+-- GO has not led the run out
+abbrev pub HasStayed : {U : Type 0} → Result U Stop → Type 0
+HasStayed (Err (stop.Left address)) = ⊥
+HasStayed came = ⊤
+
 -- the answer of a run that came so far
 abbrev pub finish_of : {U : Type 0} → Result U Stop → Result EvalFinish EvalError
 finish_of (Ok done) = Ok finish.StepsUsed
@@ -80,4 +85,5 @@ finish_of (Err (stop.Halt halt.Read)) = Err error.Read
 finish_of (Err (stop.Halt halt.Write)) = Err error.Write
 finish_of (Err stop.Underflow) = Ok finish.Underflow
 finish_of (Err stop.Unbalanced) = Ok finish.Unbalanced
-finish_of (Err stop.OutOfMemory) = Err error.OutOfMemory
+-- memory was wanting; or GO has led the run out, which does not come up where no body has GO
+finish_of (Err stop) = Err error.OutOfMemory

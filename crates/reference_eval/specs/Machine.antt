@@ -41,6 +41,7 @@ ActsStopped (stop.Halt halt.Read) outcome w = ⊥
 ActsStopped (stop.Halt halt.Write) outcome w = ⊥
 ActsStopped stop.Underflow outcome w = outcome ≡ Ends run.Underflow w
 ActsStopped stop.Unbalanced outcome w = outcome ≡ Ends run.Unbalanced w
+ActsStopped (stop.Left address) outcome w = outcome ≡ Ends (run.Left address) w
 ActsStopped stop.OutOfMemory outcome w = ⊤
 
 abbrev pub Acts : {U : Type 0} → Result U Stop → Outcome → State → Type 0

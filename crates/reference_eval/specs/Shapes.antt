@@ -115,4 +115,5 @@ shape_of word.Unloop = shape.Frame
 shape_of word.Execute = shape.Frame
 shape_of word.AbortRun = shape.Ends
 shape_of word.Quit = shape.Ends
+shape_of word.Go = shape.Ends
 shape_of other = shape.NoCode

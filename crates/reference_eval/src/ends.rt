@@ -58,6 +58,8 @@ pub(crate) enum Stop {
     Halt(Halt),
     Underflow,
     Unbalanced,
+    // `GO` has called the code at an address. A program without it does not come here.
+    Left(u16),
     OutOfMemory,
 }
 

@@ -1,18 +1,19 @@
 // Whole runs over a console and an output.
-ghost use Rattle.std.specs.Prelude.{◌≡◌, [], IfOk};
+ghost use Rattle.std.specs.Prelude.{◌≡◌, true, [], IfOk};
 ghost use Rattle.forth_program.specs.Program.{body_of};
+ghost use Rattle.forth_program.specs.Form.{has_no_go};
 ghost use Rattle.forth_program.specs.Step.{before};
 ghost use Rattle.reference_eval.specs.Work.{works};
 ghost use Rattle.reference_eval.specs.Outside.{scene, input_of};
 ghost use Rattle.reference_eval.specs.Machine.{Runs};
-ghost use Rattle.reference_eval.specs.Evaluation.{Evaluates, finish_of};
+ghost use Rattle.reference_eval.specs.Evaluation.{Evaluates, HasStayed, finish_of};
 
 use crate::ends::{EvalError, EvalFinish, Halt, Stop};
 use crate::machine::Machine;
 use crate::memory::Memory;
 use crate::stack::Stack;
 use crate::work::Task;
-use forth_program::{Program, runs_compose};
+use forth_program::{Program, runs_compose, sources_stay};
 use outside_io::{Sink, Source};
 use std::alloc::{AllocError, Global};
 
@@ -61,6 +62,7 @@ impl<'a> Machine<'a> {
 
 // The answer of a run that came so far.
 fn finish(came: Result<(), Stop>) -> Result<EvalFinish, EvalError>
+    requires { HasStayed came }
     ensures { result ≡ finish_of came }
 {
     match came {
@@ -71,10 +73,11 @@ fn finish(came: Result<(), Stop>) -> Result<EvalFinish, EvalError>
         Err(Stop::Underflow) => Ok(EvalFinish::Underflow),
         Err(Stop::Unbalanced) => Ok(EvalFinish::Unbalanced),
         Err(Stop::OutOfMemory) => Err(EvalError::OutOfMemory),
+        Err(Stop::Left(_)) => unreachable!(),
     }
 }
 
-/// Evaluates a program for at most `k` word steps, with the input from `console` and what is printed going to `out`.
+/// Evaluates a program without `GO` for at most `k` word steps, with the input from `console` and what is printed going to `out`.
 ///
 /// The console is asked for one byte, and only where the run takes one. What is printed waits in a buffer of 512 bytes, which is
 /// written out before each such question, when it is full, and at the end.
@@ -88,6 +91,7 @@ pub fn evaluate<C: Source, O: Sink>(
     out: &mut O,
     k: u64,
 ) -> Result<EvalFinish, EvalError>
+    requires { has_no_go program.now ≡ true }
     ensures { Evaluates program.now k result (input_of (C.left console.old) (C.calls console.old)) (input_of (C.left console.new) (C.calls console.new)) (C.faults console.old) (C.faults console.new) (O.held out.old) (O.held out.new) (O.faults out.old) (O.faults out.new) }
 {
     let Ok(mut memory) = Memory::new(alloc, program) else {
@@ -101,5 +105,7 @@ pub fn evaluate<C: Source, O: Sink>(
     if memory.has_failed() {
         return Err(EvalError::Write);
     }
+    let _count = program.def_count();
+    sources_stay();
     finish(came)
 }

@@ -43,7 +43,7 @@ pub(crate) enum Shape {
     TakesFour,
     /// Return entries, and `EXECUTE`.
     Frame,
-    /// The run ends.
+    /// The run ends, or is led out of the source.
     Ends,
     /// Words that stand in no item.
     NoCode,
@@ -137,7 +137,7 @@ pub(crate) fn shape_of_word(word: Word) -> Shape
         | Word::OuterIndex
         | Word::Unloop
         | Word::Execute => Shape::Frame,
-        Word::AbortRun | Word::Quit => Shape::Ends,
+        Word::AbortRun | Word::Quit | Word::Go => Shape::Ends,
         _ => Shape::NoCode,
     }
 }

@@ -1,5 +1,5 @@
 // All words.
-ghost use Rattle.std.specs.Prelude.{◌≡◌, IsTrue, List, ℕ};
+ghost use Rattle.std.specs.Prelude.{◌≡◌, IsTrue};
 ghost use Rattle.forth_program.specs.State.{World};
 ghost use Rattle.forth_program.specs.Meaning.{meaning};
 ghost use Rattle.reference_eval.specs.declared.shapes.Shape.TheVariants as shapes;
@@ -15,13 +15,19 @@ use crate::stack::Stack;
 use word_table::Word;
 
 // A word that ends the run.
-fn ending_word(word: Word) -> Result<(), Stop>
+fn ending_word(word: Word, cells: &mut Stack<u16>) -> Result<(), Stop>
     requires { shape_of word ≡ shapes.Ends }
-    ensures { (c : List ℕ) (w : World) → Leaves result c (meaning word c w) w }
+    ensures { (w : World) → Leaves result cells.new (meaning word cells.old w) w }
 {
     match word {
         Word::AbortRun => Err(Stop::Halt(Halt::Ended(End::Halted(1)))),
         Word::Quit => Err(Stop::Halt(Halt::Ended(End::Halted(3)))),
+        Word::Go => {
+            let Some(address) = cells.pop() else {
+                return Err(Stop::Underflow);
+            };
+            Err(Stop::Left(address))
+        }
         _ => unreachable!(),
     }
 }
@@ -45,7 +51,7 @@ pub(crate) fn quiet_word(word: Word, cells: &mut Stack<u16>, data_start: u16) ->
         Shape::Product => product_word(word, cells),
         Shape::Quotient => quotient_word(word, cells),
         Shape::LongQuotient => long_quotient_word(word, cells),
-        Shape::Ends => ending_word(word),
+        Shape::Ends => ending_word(word, cells),
         Shape::NoCode => Err(Stop::Underflow),
         Shape::TakesNone
         | Shape::TakesOne
