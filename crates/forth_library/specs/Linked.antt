@@ -17,8 +17,10 @@ abbrev pub SourcesAreBuilt : Type 0
 SourcesAreBuilt = (p : SourceProgram) → IsSource p → IsBuilt whole_library p
 
 pub record LinkedImagesAgree : Type 0 where
-  pub forward : (p : SourceProgram) (input : List ℕ) (k : ℕ) → IsBuilt whole_library p → AreBytes p.first_space → AreBytes input → IsSafe p input k → leaves (source_run p input k) ≡ false → ForwardSimulation whole_library p input k
-  pub backward : (p : SourceProgram) (input : List ℕ) (n : ℕ) → IsBuilt whole_library p → AreBytes p.first_space → AreBytes input → IsSafe p input (word_steps p n) → leaves (source_run p input (word_steps p n)) ≡ false → BackwardSimulation whole_library p input n
+  pub forward : (p : SourceProgram) (input : List ℕ) (k : ℕ) → IsBuilt whole_library p → AreBytes p.first_space → AreBytes input → IsSafe p input k →
+      leaves (source_run p input k) ≡ false → ForwardSimulation whole_library p input k
+  pub backward : (p : SourceProgram) (input : List ℕ) (n : ℕ) → IsBuilt whole_library p → AreBytes p.first_space → AreBytes input → IsSafe p input (word_steps p n) →
+      leaves (source_run p input (word_steps p n)) ≡ false → BackwardSimulation whole_library p input n
   pub on_chip : (p : SourceProgram) (input : List ℕ) → IsBuilt whole_library p → AreBytes p.first_space → AreBytes input → ((k : ℕ) → IsSafe p input k) → ((k : ℕ) → leaves (source_run p input k) ≡ false) →
       ((k : ℕ) → StacksFit p input 33 32 k) → AgreesOnChip whole_library p input
   pub last_calls : (p : SourceProgram) → IsBuilt whole_library p → calls_go_back 0 p.bodies ≡ true → all_begin_well p ≡ true → LastCalls (laid_out whole_library p).cells
