@@ -1,11 +1,12 @@
 -- What a step bound says of runs.
-use Rattle.std.specs.Prelude.{◌≡◌, ℕ, ◌≤◌, ◌<◌, List, length, Some}
+use Rattle.std.specs.Prelude.{◌≡◌, ℕ, ◌≤◌, ◌<◌, true, List, length, Some}
 use Rattle.j1_table.specs.Image.{Content}
 use Rattle.j1_simulator.specs.Step.{Stop}
 use Rattle.j1_simulator.specs.Run.{round_run}
 use Rattle.forth_program.specs.Tree.{Nodes}
 use Rattle.forth_program.specs.State.{End, World, Ends}
 use Rattle.forth_program.specs.Program.{SourceProgram}
+use Rattle.forth_program.specs.Form.{has_no_go}
 use Rattle.forth_program.specs.Run.{source_run}
 use Rattle.forth_program.specs.Price.{price}
 use Rattle.depth_certifier.specs.Certificate.{Cert, IsValid}
@@ -31,8 +32,8 @@ BoundedProgramsEnd = (p : SourceProgram) (z : Cert) (most : ℕ) (input : List �
 abbrev pub EndsOnChip : Content → ℕ → Type 0
 EndsOnChip image most = (input : List ℕ) → AreBytes input → (stop : Stop) × ((round_run image input most).stop ≡ Some stop)
 
--- so does that of a built program with a valid certificate and a bound, with any library that means its words
+-- so does that of a built program without GO, with a valid certificate and a bound, with any library that means its words
 abbrev pub BoundedImagesEnd : Type 0
 BoundedImagesEnd =
-    (library : List Nodes) (p : SourceProgram) (z : Cert) (most : ℕ) → IsLibrary library → LibraryMeans library → IsBuilt library p → AreBytes p.first_space → IsValid p z → step_bound p ≡ Bounded most →
-    EndsOnChip (laid_out library p) most
+    (library : List Nodes) (p : SourceProgram) (z : Cert) (most : ℕ) → IsLibrary library → LibraryMeans library → IsBuilt library p → AreBytes p.first_space → has_no_go p ≡ true → IsValid p z →
+    step_bound p ≡ Bounded most → EndsOnChip (laid_out library p) most

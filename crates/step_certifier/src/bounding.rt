@@ -1,6 +1,7 @@
 // The step bound of a program.
-ghost use Rattle.std.specs.Prelude.{◌≡◌, ℕ, ◌+◌, ◌<◌, nat_lt, if◌then◌else◌, Some, None, length, map, option_map, slice_index_or, IfOk, IfErr, IfSome};
+ghost use Rattle.std.specs.Prelude.{◌≡◌, ℕ, ◌+◌, ◌<◌, nat_lt, if◌then◌else◌, true, Some, None, length, map, option_map, slice_index_or, IfOk, IfErr, IfSome};
 ghost use Rattle.step_certifier.specs.declared.bound.BoundError.TheVariants.{OutOfMemory};
+ghost use Rattle.forth_program.specs.Form.{has_no_go};
 ghost use Rattle.step_certifier.specs.Capped.{capped, most_steps};
 ghost use Rattle.step_certifier.specs.Cost.{costs as costs_in};
 ghost use Rattle.step_certifier.specs.Bound.{refused_item, Answers, NamesDefinition};
@@ -83,7 +84,7 @@ impl From<AllocError> for BoundError {
 /// The step bound of a program: a number of instructions within which the run of its image ends on every input. It is the price of
 /// the start, of the items of MAIN whichever way they go, and of the end. Where the definitions that MAIN reaches have items
 /// without a bound, the first of these in the source is refused; and where the bound is over 1,000,000,000,000,000,000, MAIN is.
-/// The certificate and the image are for what is said of the run. An error without a refusal is want of memory.
+/// The program has no `GO`, which would lead its run out of it. The certificate and the image are for what is said of the run. An error without a refusal is want of memory.
 pub fn step_bound(
     alloc: Global,
     program: &Program,
@@ -92,6 +93,7 @@ pub fn step_bound(
 ) -> Result<StepBound, BoundError>
     requires built { IsBuilt whole_library program.now }
     requires bytes { AreBytes program.now.first_space }
+    requires without_go { has_no_go program.now ≡ true }
     requires certified { IsValid program.now certificate.now }
     requires laid_out { image.now ≡ laid_out whole_library program.now }
     ensures answer { Answers program.now result }

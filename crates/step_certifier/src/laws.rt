@@ -16,7 +16,7 @@ pub fn bounded_programs_end()
     ensures { BoundedProgramsEnd }
 {}
 
-/// On the chip the run of its image ends within so many instructions, on every input.
+/// On the chip the run of the image of such a program without `GO` ends within so many instructions, on every input.
 pub fn bounded_images_end()
     ensures { BoundedImagesEnd }
 {
