@@ -6,6 +6,7 @@ pub mod WordGrowth
 pub mod StepGrowth
 pub mod WordStays
 pub mod StepStays
+pub mod LeavesAtGo
 mod Rows
 mod StackVectors
 mod ArithmeticVectors

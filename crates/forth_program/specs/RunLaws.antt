@@ -1,8 +1,10 @@
 -- What holds of all runs.
-use Rattle.std.specs.Prelude.{◌≡◌, ℕ, ◌+◌, Bool, true, false, List, ◌++◌, length}
+use Rattle.std.specs.Prelude.{◌≡◌, ℕ, ◌+◌, Bool, true, false, List, ◌∷◌, ◌++◌, length}
+use Rattle.word_table.specs.declared.word.Word.TheVariants.{Go}
 use Rattle.std.specs.List.{list_all}
-use Rattle.forth_program.specs.State.{Access, World, State, End, Ends}
+use Rattle.forth_program.specs.State.{Access, Work, World, State, End, Left, Ends}
 use Rattle.forth_program.specs.Program.{SourceProgram}
+use Rattle.forth_program.specs.Step.{IsWord, first_work, step}
 use Rattle.forth_program.specs.Run.{and_then, steps, source_run, world_of, leaves}
 use Rattle.forth_program.specs.Form.{has_no_go, may_be_token}
 use Rattle.forth_program.specs.Price.{spent}
@@ -35,3 +37,15 @@ WorldsGrow = (p : SourceProgram) (k : ℕ) (s : State) → IsLater s.world (worl
 -- a run of a program without GO is never led out of the source
 abbrev pub ProgramsStay : Type 0
 ProgramsStay = (p : SourceProgram) (input : List ℕ) (k : ℕ) → has_no_go p ≡ true → list_all may_be_token p.tokens ≡ true → leaves (source_run p input k) ≡ false
+
+-- a step of GO, with an address
+pub record IsGoStep (s : State) (address : ℕ) (world : World) : Type 0 where
+  pub after : List Work
+  pub cells : List ℕ
+  pub first : first_work s.work ≡ IsWord Go after
+  pub address_is : s.cells ≡ address ∷ cells
+  pub world_is : world ≡ s.world
+
+-- no other step leads out of the source
+abbrev pub OnlyGoLeaves : Type 0
+OnlyGoLeaves = (p : SourceProgram) (s : State) (address : ℕ) (world : World) → step p s ≡ Ends (Left address) world → IsGoStep s address world

@@ -1,6 +1,6 @@
 // What holds of all trees of items, and of all runs.
 ghost use Rattle.forth_program.specs.TreeLaws.{IfTree, UntilTree, WhileTree, AgainTree, DoTree, QDoTree, CaseTree, TreesJoin};
-ghost use Rattle.forth_program.specs.RunLaws.{StepsCompose, EndStays, SpentAdds, WorldsGrow, ProgramsStay};
+ghost use Rattle.forth_program.specs.RunLaws.{StepsCompose, EndStays, SpentAdds, WorldsGrow, ProgramsStay, OnlyGoLeaves};
 
 /// The tree of a structure has the trees of its parts, and one list after another has the trees of both.
 pub fn trees_have_parts()
@@ -36,4 +36,9 @@ pub fn worlds_grow()
 /// A run of a program without `GO` is never led out of the source.
 pub fn sources_stay()
     ensures { ProgramsStay }
+{}
+
+/// Only a step of `GO` leads a run out of the source, to the address that it takes, and changes nothing else.
+pub fn only_go_leaves()
+    ensures { OnlyGoLeaves }
 {}

@@ -13,6 +13,8 @@ mod name;
 mod program;
 
 pub use item::{Arms, DefId, Item, Items, TextKind};
-pub use laws::{prices_add, runs_compose, sources_stay, trees_have_parts, worlds_grow};
+pub use laws::{
+    only_go_leaves, prices_add, runs_compose, sources_stay, trees_have_parts, worlds_grow,
+};
 pub use name::Name;
 pub use program::{Program, ProgramParts, Token};
