@@ -1,0 +1,4 @@
+mod KernelItems
+pub mod ReadText
+pub mod Images
+pub mod Drives

@@ -1,0 +1,4 @@
+pub mod Kernel
+pub mod Certificate
+pub mod Session
+pub mod Replies

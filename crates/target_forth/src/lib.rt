@@ -1,6 +1,12 @@
 //! The interactive Forth that runs on the chip: its kernel in Forth, the image of the kernel, and sessions with it.
 #![tactic(auto)]
 
+mod image;
+mod laws;
+mod sessions;
 mod text;
 
+pub use image::kernel_image;
+pub use laws::{kernel_is_certified, kernel_is_read, kernel_replies};
+pub use sessions::{SessionError, session};
 pub use text::{KERNEL_TEXT, kernel_text};

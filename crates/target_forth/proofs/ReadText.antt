@@ -1,0 +1,161 @@
+-- The text is read: computed.
+use Rattle.std.proofs.Common.{◌≡◌, ℕ, ◌/◌, Bool, true, false, ◌&&◌, nat_lt, nat_le, nat_eq, List, [], ◌∷◌, length, refl, sym, subst, arith}
+use Rattle.std.specs.List.{All, list_all}
+use Rattle.std.proofs.lemmas.Bool.{and_parts, ltb-true as lt_of, leb-true as le_of, eqb-true as eq_of}
+use Rattle.std.proofs.lemmas.List.Elements.{All-nil, All-cons}
+use Rattle.console_ports.specs.DataSpace.{IsDataStart}
+use Rattle.word_table.specs.declared.word.Vocabulary.TheVariants.{Kernel}
+use Rattle.forth_program.specs.Tree.{Node, Literal, Plain, Call, Child}
+use Rattle.forth_program.specs.Program.{SourceProgram}
+use Rattle.forth_program.specs.SourceTokens.{all_tokens}
+use Rattle.forth_program.specs.Step.{step}
+use Rattle.forth_program.specs.Run.{steps}
+use Rattle.forth_program.specs.Form.{everywhere, leaves_fit, may_be_token}
+use Rattle.library_laws.specs.Bodies.{whole_library}
+use Rattle.code_layout.specs.Places.{place_by}
+use Rattle.code_layout.specs.Layout.{laid_out}
+use Rattle.code_layout.specs.Built.{is_laid_out, token_is_laid_out, IsBuilt}
+use Rattle.control_flow.specs.Brackets.{bracket_at}
+use Rattle.control_flow.specs.HostParts.{host_part_at}
+use Rattle.control_flow.specs.Items.{items_at}
+use Rattle.control_flow.specs.ParseResult.{ParseResult, Fine, Refused, Endless}
+use Rattle.control_flow.specs.SourceText.{source_at, program_in}
+use Rattle.depth_certifier.specs.Certificate.{IsValid}
+use Rattle.depth_certifier.specs.Checking.{is_valid, ChecksAreExact}
+use Rattle.depth_certifier.specs.Rounds.{ProperToken}
+use Rattle.kernel_words.specs.Bodies.{IsKernel}
+use Rattle.target_forth.specs.declared.text.TheConstants.{KERNEL_TEXT}
+use Rattle.target_forth.specs.Kernel.{program_read, kernel_program}
+use Rattle.target_forth.specs.Certificate.{kernel_certificate}
+use Rattle.target_forth.specs.Replies.{Replies}
+use Rattle.target_forth.proofs.KernelItems.{kernel_bodies}
+
+-- ---- what the program of the text has to pass, as one test
+
+abbrev pub passes : SourceProgram → Bool
+passes p =
+    nat_lt p.main_body (length p.bodies)
+    && (list_all (everywhere (is_laid_out true (length whole_library) (length p.bodies))) p.bodies
+    && (list_all (token_is_laid_out (length whole_library) (length p.bodies)) p.tokens
+    && (list_all (leaves_fit false) p.bodies
+    && (nat_eq p.data_start 8192
+    && (nat_le (length (laid_out whole_library p).cells) (p.data_start / 2)
+    && (nat_le (all_tokens p.bodies) p.source_tokens
+    && is_valid p kernel_certificate))))))
+
+-- there is a program, and it passes
+abbrev pub read_passes : ParseResult SourceProgram → Bool
+read_passes (Fine p) = passes p
+read_passes (Refused token cause) = false
+read_passes Endless = false
+
+text_passes : read_passes (program_in Kernel KERNEL_TEXT.now) ≡ true
+unfolding bracket_at host_part_at items_at source_at place_by
+text_passes = refl
+
+read_is_fine : (r : ParseResult SourceProgram) → read_passes r ≡ true → r ≡ Fine (program_read r)
+read_is_fine (Fine p) e = refl
+read_is_fine (Refused token cause) e = absurd cc
+read_is_fine Endless e = absurd cc
+
+pub text_is_read : program_in Kernel KERNEL_TEXT.now ≡ Fine kernel_program
+unfolding kernel_program
+text_is_read = read_is_fine (program_in Kernel KERNEL_TEXT.now) text_passes
+
+kernel_passes : passes kernel_program ≡ true
+kernel_passes = subst (λ r. read_passes r ≡ true) text_is_read text_passes
+
+-- ---- what each part of the test says
+
+eighth : IsDataStart 8192
+eighth = record { is_even = refl; at_least = omega arith; at_most = omega arith }
+
+-- it is built, and the check of its certificate is true
+parts : (p : SourceProgram) → passes p ≡ true → IsBuilt whole_library p × (is_valid p kernel_certificate ≡ true)
+parts p e =
+    let a = and_parts _ _ e in
+    let b = and_parts _ _ a.1 in
+    let c = and_parts _ _ b.1 in
+    let d = and_parts _ _ c.1 in
+    let f = and_parts _ _ d.1 in
+    let g = and_parts _ _ f.1 in
+    let h = and_parts _ _ g.1 in (
+      record {
+        has_main = lt_of _ _ a.0;
+        items = b.0;
+        token_items = c.0;
+        leaves_in_loops = d.0;
+        data_start = subst IsDataStart (sym (eq_of _ _ f.0)) eighth;
+        code_fits = le_of _ _ g.0;
+        tokens_counted = le_of _ _ h.0;
+      },
+      h.1,
+    )
+
+proper_token : (count : ℕ) (node : Node) → token_is_laid_out 42 count node ≡ true → ProperToken node
+proper_token count (Literal value) e = tt
+proper_token count (Plain word) e = (and_parts (may_be_token (Plain word)) _ e).0
+proper_token count (Call definition) e = tt
+proper_token count (Child definition address) e = tt
+proper_token count node e = absurd cc
+
+proper_tokens : (count : ℕ) (nodes : List Node) → list_all (token_is_laid_out 42 count) nodes ≡ true → All ProperToken nodes
+proper_tokens count [] e = All-nil ProperToken
+proper_tokens count (node ∷ nodes) e =
+    let both = and_parts (token_is_laid_out 42 count node) (list_all (token_is_laid_out 42 count) nodes) e in
+    All-cons ProperToken node nodes (proper_token count node both.0) (proper_tokens count nodes both.1)
+
+pub kernel_is_built : IsBuilt whole_library kernel_program
+kernel_is_built = (parts kernel_program kernel_passes).0
+
+pub kernel_is_certified : ChecksAreExact → IsValid kernel_program kernel_certificate
+kernel_is_certified exact = (exact kernel_program kernel_certificate (proper_tokens _ kernel_program.tokens kernel_is_built.token_items)).0 (parts kernel_program kernel_passes).1
+
+-- ---- the definitions
+
+bodies_are : kernel_program.bodies ≡ kernel_bodies
+unfolding bracket_at host_part_at items_at source_at kernel_program
+bodies_are = refl
+
+-- the kernel with these bodies
+has_words : (p : SourceProgram) → p.bodies ≡ kernel_bodies → IsKernel p
+has_words p e = subst (λ bodies. IsKernel (record p { bodies = bodies })) (sym e) (record {
+  reached = refl;
+  rest = refl;
+  skip = refl;
+  scan = refl;
+  advance = refl;
+  take = refl;
+  word_from = refl;
+  keep_word = refl;
+  kernel_word = refl;
+  next_word = refl;
+  parse = refl;
+  upper = refl;
+  same_byte = refl;
+  same = refl;
+  named = refl;
+  code_and_flag = refl;
+  kernel_find = refl;
+  digit = refl;
+  grow = refl;
+  take_digit = refl;
+  digits = refl;
+  minus_sign = refl;
+  signed = refl;
+  kernel_number = refl;
+  kernel_cell = refl;
+  kernel_header = refl;
+})
+
+pub kernel_has_words : IsKernel kernel_program
+kernel_has_words = has_words kernel_program bodies_are
+
+-- ---- the replies: computed, with these bodies
+
+replies : (p : SourceProgram) → p.bodies ≡ kernel_bodies → Replies p
+unfolding steps step
+replies p e = subst (λ bodies. Replies (record p { bodies = bodies })) (sym e) (record { well = refl; kept = refl; unknown = refl; dropped = refl; lacking = refl })
+
+pub kernel_replies : Replies kernel_program
+kernel_replies = replies kernel_program bodies_are
