@@ -4,6 +4,7 @@ pub mod Work
 pub mod Frames
 pub mod Steps
 pub mod Structures
+pub mod BehindGo
 pub mod Runs
 mod Samples
 pub mod Tests

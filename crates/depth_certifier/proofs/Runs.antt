@@ -5,18 +5,21 @@ use Rattle.std.specs.List.{All}
 use Rattle.std.proofs.lemmas.Int.{ints}
 use Rattle.std.proofs.lemmas.Bool.{eq-eqb}
 use Rattle.forth_program.specs.Tree.{Node, Nodes, Empty}
-use Rattle.forth_program.specs.State.{State, Outcome, Goes, Ends}
+use Rattle.forth_program.specs.State.{State, Outcome, Goes, Ends, Left}
 use Rattle.forth_program.specs.Program.{SourceProgram, body_of, token_of, uses_depth}
 use Rattle.forth_program.specs.Step.{First, BodyEnd, IsLiteral, IsWord, IsCall, IsChild, IsText, IsIf, IsTrueEnd, IsUntil, IsWhile, IsRepeat, IsAgain, IsDo, IsQDo, IsTurn, IsOf, IsEndOf, IsEndCase, IsLeave, IsExit, first_work, act, step}
 use Rattle.forth_program.specs.Run.{and_then, steps, first_state, source_run, lacks}
+use Rattle.forth_program.specs.RunLaws.{OnlyGoLeaves}
+use Rattle.forth_program.specs.Returns.{Return as GoReturn, state_back, come_back, steps_back, run_back}
 use Rattle.depth_certifier.specs.declared.effect.Effect.{Effect}
 use Rattle.depth_certifier.specs.Place.{Place, Unreachable, At, entry, from_zero}
 use Rattle.depth_certifier.specs.Effects.{Known, idle, effect_of, Return}
 use Rattle.depth_certifier.specs.Certificate.{loops, BodyFits, TokenIn, Limits, definition_limits, ExitKeeps, Keeps, Cert, known_of, BodiesFit, IsValid}
-use Rattle.depth_certifier.specs.Soundness.{main_effect, end_height, most_cells, most_return_cells, RunsWithin, CertifiedRunsFit}
+use Rattle.depth_certifier.specs.Soundness.{main_effect, end_height, most_cells, most_return_cells, RunsWithin, CertifiedRunsFit, RunsBackWithin, CertifiedRunsFitBehindGo}
 use Rattle.depth_certifier.proofs.SourcePlaces.{Stood, stood_more, below_same}
 use Rattle.depth_certifier.proofs.Work.{at_once, FirstLeads, opens, enter}
 use Rattle.depth_certifier.proofs.Frames.{KeepsFrames, Onward, Moves}
+use Rattle.depth_certifier.proofs.BehindGo.{come_behind}
 use Rattle.depth_certifier.proofs.Steps.{literal_moves, word_moves}
 use Rattle.depth_certifier.proofs.Structures.{if_moves, true_end_moves, until_moves, while_moves, repeat_moves, again_moves, do_moves, query_do_moves}
 use Rattle.depth_certifier.proofs.Structures.{turn_moves, of_moves, end_of_moves, end_case_moves, leave_moves, body_end_moves, exit_moves, text_moves}
@@ -88,6 +91,19 @@ module _ (p : SourceProgram) (known : Known) (heads : List (ℤ × ℤ)) (main :
   unfolding steps
   steps_onward zero s h = h
   steps_onward (suc k) s h = then_onward (step p s) (steps p k) (step_moves s h).onward (steps_onward k)
+
+  -- the same where each GO comes back
+  comes_onward : (only : OnlyGoLeaves) (backs : List GoReturn) (s : State) (o : Outcome) (next : List GoReturn → State → Outcome) → HoldsAt s → step p s ≡ o → OnwardTo o → ((rest : List GoReturn) (t : State) → HoldsAt t → OnwardTo (next rest t)) →
+      OnwardTo (come_back backs s o next)
+  comes_onward only backs s (Goes t) next h is on each = each backs t on
+  comes_onward only (back ∷ backs) s (Ends (Left address) world) next h is on each =
+      each backs (state_back back s) (come_behind known heads main most return_most s address world back h (only p s address world is))
+  comes_onward only backs s (Ends end world) next h is on each = on
+
+  pub back_onward : (only : OnlyGoLeaves) (k : ℕ) (backs : List GoReturn) (s : State) → HoldsAt s → OnwardTo (steps_back p backs k s)
+  unfolding steps_back
+  back_onward only zero backs s h = h
+  back_onward only (suc k) backs s h = comes_onward only backs s (step p s) (λ rest t. steps_back p rest k t) h refl (step_moves s h).onward (λ rest t i. back_onward only k rest t i)
 
   pub onward_lacks : (o : Outcome) → OnwardTo o → lacks o ≡ false
   onward_lacks (Goes s) h = refl
@@ -229,6 +245,24 @@ module _ (p : SourceProgram) (z : Cert) (valid : IsValid p z) where
       stacks_fit = λ k j s early is. let m = moves input j s is in (m.data_cells, m.return_cells, m.executes);
     },
   )
+
+  module _ (only : OnlyGoLeaves) (backs : List GoReturn) (input : List ℕ) where
+    on_back : (k : ℕ) → Onward known z.heads main most return_most (run_back p backs input k)
+    unfolding run_back
+    on_back k = back_onward p known z.heads main most return_most (most_cells p z) lower high ends tokens bodies limits only k backs (first_state p input) (start input)
+
+    moves_back : (k : ℕ) (s : State) → run_back p backs input k ≡ Goes s → Moves known z.heads main most return_most p (most_cells p z) (first_work s.work) s (step p s)
+    moves_back k s is = step_moves p known z.heads main most return_most (most_cells p z) lower high ends tokens bodies limits s (subst (Onward known z.heads main most return_most) is (on_back k))
+
+    back_within : RunsBackWithin p (most_cells p z) (most_return_cells p z) backs input
+    back_within = record {
+      lacks_nothing = λ k. onward_lacks p known z.heads main most return_most (most_cells p z) lower high ends tokens bodies limits (run_back p backs input k) (on_back k);
+      depths_fit = λ k s is. (moves_back k s is).depth;
+      stacks_fit = λ k s is. let m = moves_back k s is in (m.data_cells, m.return_cells, m.executes);
+    }
+
+pub certified_runs_fit_behind_go : OnlyGoLeaves → CertifiedRunsFitBehindGo
+certified_runs_fit_behind_go only p z backs input valid = back_within p z valid only backs input
 
 pub certified_runs_fit : CertifiedRunsFit
 certified_runs_fit p z valid = all_within p z valid

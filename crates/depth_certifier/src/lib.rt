@@ -33,7 +33,7 @@ mod walking;
 
 pub use certificate::Certificate;
 pub use effect::{CertCause, Effect};
-pub use laws::{certified_runs_fit, checks_are_exact, rounds_judge};
+pub use laws::{certified_runs_fit, certified_runs_fit_behind_go, checks_are_exact, rounds_judge};
 pub use refused::CertError;
 pub use settling::certify;
 pub use shape::Slot;
