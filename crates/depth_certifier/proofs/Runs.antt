@@ -93,8 +93,8 @@ module _ (p : SourceProgram) (known : Known) (heads : List (ℤ × ℤ)) (main :
   steps_onward (suc k) s h = then_onward (step p s) (steps p k) (step_moves s h).onward (steps_onward k)
 
   -- the same where each GO comes back
-  comes_onward : (only : OnlyGoLeaves) (backs : List GoReturn) (s : State) (o : Outcome) (next : List GoReturn → State → Outcome) → HoldsAt s → step p s ≡ o → OnwardTo o → ((rest : List GoReturn) (t : State) → HoldsAt t → OnwardTo (next rest t)) →
-      OnwardTo (come_back backs s o next)
+  comes_onward : (only : OnlyGoLeaves) (backs : List GoReturn) (s : State) (o : Outcome) (next : List GoReturn → State → Outcome) → HoldsAt s → step p s ≡ o → OnwardTo o →
+      ((rest : List GoReturn) (t : State) → HoldsAt t → OnwardTo (next rest t)) → OnwardTo (come_back backs s o next)
   comes_onward only backs s (Goes t) next h is on each = each backs t on
   comes_onward only (back ∷ backs) s (Ends (Left address) world) next h is on each =
       each backs (state_back back s) (come_behind known heads main most return_most s address world back h (only p s address world is))
