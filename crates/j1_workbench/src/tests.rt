@@ -21,6 +21,7 @@ mod programs;
 mod reading;
 mod refusals;
 mod rows;
+mod sessions;
 mod source_texts;
 mod sources;
 mod word_edges;
