@@ -194,7 +194,7 @@ module _ (laws : Laws) (library : List Nodes) (p : SourceProgram) (built : IsBui
   abbrev pub front : List ℕ
   front = header (routine_place library p (Definition p.main_body)) ++ (jumps ++ (of_library ++ (of_execute ++ (of_abort ++ (of_program ++ of_tokens)))))
 
-  short : tokens_place library p + length (tokens_cells p.data_start (routine_place library p) p.tokens) + leaving_size (has_no_go p) ≤ 8000
+  pub short : tokens_place library p + length (tokens_cells p.data_start (routine_place library p) p.tokens) + leaving_size (has_no_go p) ≤ 8000
   short =
       let few = built.code_fits in
       let most = built.data_start.at_most in
@@ -219,7 +219,7 @@ module _ (laws : Laws) (library : List Nodes) (p : SourceProgram) (built : IsBui
   low Aborting = let h = short in omega arith
   low Leaving = let h = short in omega (arith, tokens_size_is p.data_start (routine_place library p) p.tokens)
 
-  front_size : length front ≡ leaving_place library p
+  pub front_size : length front ≡ leaving_place library p
   front_size =
       omega (
         arith,
@@ -232,7 +232,7 @@ module _ (laws : Laws) (library : List Nodes) (p : SourceProgram) (built : IsBui
         tokens_size_is p.data_start (routine_place library p) p.tokens,
       )
 
-  all_parts : (laid_out library p).cells ≡ front ++ of_leaving
+  pub all_parts : (laid_out library p).cells ≡ front ++ of_leaving
   all_parts = regrouped (header (routine_place library p (Definition p.main_body))) jumps of_library of_execute of_abort of_program of_tokens of_leaving
 
   abbrev end : ℕ

@@ -25,24 +25,8 @@ use Rattle.code_layout.proofs.Machine.{Laws, wider}
 use Rattle.code_layout.proofs.Runs.{steps_on, steps_end, spent_on, no_steps, nothing_spent, StandsAs, StandsWhere, Reaches, height_is}
 use Rattle.code_layout.proofs.Image.{code_size, leaves as go_code}
 use Rattle.code_layout.proofs.Simulation.{Main, main_reaches, called, from_main, main, stand}
+use Rattle.code_layout.proofs.ReturningRuns.{token_no_go}
 use Rattle.code_layout.proofs.GoStep.{GoCode, Leads, led_places, go_leads}
-
--- no token is GO
-pub token_no_go : (node : Node) (w after : List Work) → may_be_token node ≡ true → first_in node w ≡ IsWord Go after → ⊥
-token_no_go (Literal value) w after may e = cc
-token_no_go (Plain word) w after may e = let same : word ≡ Go = cc in let f : false ≡ true = subst (λ x. may_be_token (Plain x) ≡ true) same may in cc
-token_no_go (Call d) w after may e = cc
-token_no_go (Child d address) w after may e = cc
-token_no_go (Text kind address size) w after may e = cc
-token_no_go (If first second) w after may e = let f : false ≡ true = may in cc
-token_no_go (Until body) w after may e = let f : false ≡ true = may in cc
-token_no_go (While test body) w after may e = let f : false ≡ true = may in cc
-token_no_go (Again body) w after may e = let f : false ≡ true = may in cc
-token_no_go (Do body plus) w after may e = let f : false ≡ true = may in cc
-token_no_go (QDo body plus) w after may e = let f : false ≡ true = may in cc
-token_no_go (Case arms rest) w after may e = let f : false ≡ true = may in cc
-token_no_go Leave w after may e = cc
-token_no_go Exit w after may e = cc
 
 spent_once : (p : SourceProgram) (total : ℕ) (o : Outcome) → spent_after total o (spent p total 0) ≡ total
 unfolding spent

@@ -21,6 +21,11 @@ pub mod ExecuteAndAbort
 pub mod Image
 pub mod Library
 pub mod Simulation
+pub mod PatchedMachine
+pub mod SourceReturns
+pub mod PatchedRun
+pub mod ReturningRuns
+pub mod ReturningImage
 pub mod LedOut
 pub mod Chips
 pub mod Followed

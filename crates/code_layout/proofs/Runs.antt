@@ -52,7 +52,7 @@ module _ (p : SourceProgram) (s : State) (k total : ℕ) where
   unfolding spent
   spent_on after e = rw e refl
 
-  spent_end : (end : End) (world : World) → step p s ≡ Ends end world → spent p total (suc k) s ≡ total + step_price s
+  pub spent_end : (end : End) (world : World) → step p s ≡ Ends end world → spent p total (suc k) s ≡ total + step_price s
   unfolding spent
   spent_end end world e = rw e refl
 
@@ -80,6 +80,10 @@ module _ (laws : Laws) (p : SourceProgram) (code : List ℕ) (place : Routine �
   StandsWhere v (Goes s) = StandsAs v s ⊎ ((node : Node) × (w : List Work) × (s.work ≡ Todo node ∷ w) × (may_be_token node ≡ true))
   StandsWhere v (Ends end world) = Unit {0}
 
+  abbrev pub Nearer : ℕ → ℕ → ℕ → Outcome → Type 0
+  Nearer k now count (Goes s) = (k + ahead s.work + unfinished s.callers ≤ now + count * (p.source_tokens + 1)) ⊎ ((node : Node) × (w : List Work) × (s.work ≡ Todo node ∷ w) × (may_be_token node ≡ true))
+  Nearer k now count (Ends end world) = Unit {0}
+
   -- k word steps, and as many instructions as do the same
   pub record Reaches (k total now : ℕ) (s : State) (v : OpenConfiguration) : Type 0 where
     pub count : ℕ
@@ -91,12 +95,14 @@ module _ (laws : Laws) (p : SourceProgram) (code : List ℕ) (place : Routine �
     pub at_end : (high return_high : ℕ) (end : End) → StepsFit p high return_high k s → end_of (steps p k s) ≡ Some end → StaysWithin 0 high 0 return_high (run open_storage p.data_start count v)
     pub progress : end_of (steps p k s) ≡ None → k ≤ now + count * (p.source_tokens + 1)
     pub stands : StandsWhere (run open_storage p.data_start count v) (steps p k s)
+    -- with the steps that are ahead there
+    pub nearer : Nearer k now count (steps p k s)
 
   pub height_is : (out : Option ℕ) (pc : ℕ) (s : State) (base : List (Option ℕ)) → Meets code place p out pc s base → length (return_places s.entries base) ≡ return_height s
   height_is out pc s base m = omega (arith, places_height s.entries base, callers_fit code place p s.callers base m.frames)
 
-  none_yet : (total now : ℕ) (s : State) (v : OpenConfiguration) → Shows code v (Goes s) → StandsAs v s → Reaches zero total now s v
-  none_yet total now s v shows stands = record {
+  none_yet : (total now : ℕ) (s : State) (v : OpenConfiguration) → Shows code v (Goes s) → StandsAs v s → ahead s.work + unfinished s.callers ≤ now → Reaches zero total now s v
+  none_yet total now s v shows stands due = record {
     count = 0;
     cheap = omega (arith, nothing_spent p s total);
     paid = λ e. omega (arith, nothing_spent p s total);
@@ -105,6 +111,7 @@ module _ (laws : Laws) (p : SourceProgram) (code : List ℕ) (place : Routine �
     at_end = λ high return_high end fit e. let f : end_of (Goes s) ≡ Some end = ap end_of (sym (no_steps p s)) ∙ e in cc;
     progress = λ e. omega arith;
     stands = subst (StandsWhere v) (sym (no_steps p s)) (inl stands);
+    nearer = subst (Nearer 0 now 0) (sym (no_steps p s)) (inl (omega arith));
   }
 
   -- the last of some steps
@@ -122,7 +129,13 @@ module _ (laws : Laws) (p : SourceProgram) (code : List ℕ) (place : Routine �
         at_end = λ high' return_high' end' fit e'. let g = fits high' return_high' fit in narrower laws p.data_start 0 high 0 return_high high' return_high' (run open_storage p.data_start h.count v) g.0 g.1 h.at_end;
         progress = λ n. let f : Some end ≡ None = sym (ap end_of over) ∙ n in cc;
         stands = subst (StandsWhere (run open_storage p.data_start h.count v)) (sym over) tt;
+        nearer = subst (Nearer k now h.count) (sym over) tt;
       }
+
+  nearer_on : (m k all_steps now then_now count count' : ℕ) (o : Outcome) → all_steps ≡ m + k → m + then_now ≤ now + count * (p.source_tokens + 1) → Nearer k then_now count' o → Nearer all_steps now (count + count') o
+  nearer_on m k all_steps now then_now count count' (Goes s) are near (inl h) = inl (omega (arith, are, near, h, add-mul count count' (p.source_tokens + 1)))
+  nearer_on m k all_steps now then_now count count' (Goes s) are near (inr hand) = inr hand
+  nearer_on m k all_steps now then_now count count' (Ends end world) are near h = tt
 
   -- m steps and those after them
   goes_on : (m k all_steps total cost now now' : ℕ) (s after : State) (v : OpenConfiguration) (high return_high : ℕ) → all_steps ≡ m + k → steps p all_steps s ≡ steps p k after → spent p total all_steps s ≡ spent p (total + cost) k after →
@@ -146,6 +159,7 @@ module _ (laws : Laws) (p : SourceProgram) (code : List ℕ) (place : Routine �
         at_end = λ high' return_high' end fit q. subst (StaysWithin 0 high' 0 return_high') (sym joined) (r.at_end high' return_high' end (fits high' return_high' fit).2 (sym (ap end_of onward) ∙ q));
         progress = λ n. let far = r.progress (sym (ap end_of onward) ∙ n) in omega (arith, far, near, are, add-mul c.count r.count (p.source_tokens + 1));
         stands = subst (StandsWhere (run open_storage p.data_start (c.count + r.count) v)) (sym onward) (subst (λ u. StandsWhere u (steps p k after)) (sym joined) r.stands);
+        nearer = subst (Nearer all_steps now (c.count + r.count)) (sym onward) (nearer_on m k all_steps now (ahead after.work + unfinished after.callers) c.count r.count (steps p k after) are (omega (arith, near)) r.nearer);
       }
 
   -- what is proved of k steps
@@ -156,7 +170,7 @@ module _ (laws : Laws) (p : SourceProgram) (code : List ℕ) (place : Routine �
   no_runs : RunsOf zero
   no_runs total pc out s base data_above return_above m sound depths =
       none_yet total (ahead s.work + unfinished s.callers) s (standing_as s (machine_at code pc base data_above return_above)) (record { stop_is = refl; memory = refl; input = refl; printed = refl })
-      (record { out = out; to = pc; base = base; data_above = data_above; return_above = return_above; is = refl; meets = m })
+      (record { out = out; to = pc; base = base; data_above = data_above; return_above = return_above; is = refl; meets = m }) (omega arith)
 
   module _ (total pc : ℕ) (out : Option ℕ) (s : State) (base data_above return_above : List (Option ℕ)) (m : Meets code place p out pc s base) where
     abbrev from : OpenConfiguration
@@ -230,6 +244,7 @@ module _ (laws : Laws) (p : SourceProgram) (code : List ℕ) (place : Routine �
             at_end = λ high' return_high' end fit q. let f : None ≡ Some end = sym (ap end_of over) ∙ q in cc;
             progress = λ n. omega (arith, near);
             stands = subst (StandsWhere (run open_storage p.data_start x.count from)) (sym over) (inr (x.node, x.then_work, x.work_is, x.is_token));
+            nearer = subst (Nearer 1 (ahead s.work + unfinished s.callers) x.count) (sym over) (inr (x.node, x.then_work, x.work_is, x.is_token));
           }
 
       module _ (top return_top : ℕ) (peak : high ≤ top) (back : return_high ≤ return_top) where

@@ -43,7 +43,7 @@ stop_at Underflow world e = absurd (let f : true ≡ false = e in cc)
 stop_at Unbalanced world e = absurd (let f : true ≡ false = e in cc)
 stop_at (Left address) world e = absurd (let f : true ≡ false = e in cc)
 
-enough : (n c most k : ℕ) → (n + 1) * (most + 4) ≤ k → k ≤ most + c * (most + 1) → n ≤ c
+pub enough : (n c most k : ℕ) → (n + 1) * (most + 4) ≤ k → k ≤ most + c * (most + 1) → n ≤ c
 enough n c most k h far =
     ⊎_elim (λ lt. absurd (let m : c * (most + 1) ≤ n * (most + 1) = mul-le-mul_right (most + 1) (less c n lt) in omega (arith, spread n most, m))) (λ le. le) (cases_lt c n)
   where

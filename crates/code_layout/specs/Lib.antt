@@ -8,3 +8,4 @@ pub mod LastCalls
 pub mod Places
 pub mod Weights
 pub mod Leaving
+pub mod Returning

@@ -2,9 +2,11 @@
 ghost use Rattle.code_layout.specs.Agreement.{ImagesAgree};
 ghost use Rattle.code_layout.specs.Chip.{ChipsAgree};
 ghost use Rattle.code_layout.specs.Leaving.{ImagesAreLedOut};
+ghost use Rattle.code_layout.specs.Returning.{ImagesReturn};
 ghost use Rattle.code_layout.specs.LastCalls.{LastCallsAreJumps};
 ghost use Rattle.code_layout.specs.Weights.{CodeIsLight, ItemsAreLight, TokensAreLight};
 
+use forth_program::only_go_leaves;
 use j1_simulator::runs_only_grow;
 use word_laws::{
     cells_stand, control_leads, halt_ends, needs_are_exact, numbers_do_their_meaning,
@@ -48,6 +50,25 @@ pub fn images_are_led_out()
     cells_stand();
     runs_join();
     runs_only_grow();
+}
+
+/// Where the code that `GO` calls comes back, with other data space, input and prints, the image goes on as the source does, both
+/// ways and within stated steps, for every list of returns.
+pub fn images_return()
+    ensures { ImagesReturn }
+{
+    words_do_their_meaning();
+    words_keep_their_bounds();
+    needs_are_exact();
+    words_leave_cells();
+    words_change_depths();
+    numbers_do_their_meaning();
+    control_leads();
+    halt_ends();
+    cells_stand();
+    runs_join();
+    runs_only_grow();
+    only_go_leaves();
 }
 
 /// Where the source never lacks cells or return entries, and no step needs more than 33 data cells or 32 return cells, the chip

@@ -21,7 +21,7 @@ mod words;
 
 pub use cells::tail_jump;
 pub use laws::{
-    chips_agree, code_is_light, images_agree, images_are_led_out, items_are_light,
+    chips_agree, code_is_light, images_agree, images_are_led_out, images_return, items_are_light,
     last_calls_are_jumps,
 };
 pub use layout::lay_out;
