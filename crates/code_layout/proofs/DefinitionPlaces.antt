@@ -19,7 +19,7 @@ use Rattle.code_layout.specs.Built.{word_is_laid_out, is_laid_out, token_is_laid
 use Rattle.code_layout.specs.Library.{each_uses_earlier, IsLibrary}
 use Rattle.code_layout.specs.Places.{ArePlaces, PlacesOf, places_from, place_by, word_count, definition_count}
 use Rattle.code_layout.proofs.Image.{bodies_size_is, jumps_length}
-use Rattle.code_layout.proofs.LaidCode.{body_size_is, token_size_is, tokens_size_is, leaving_size_is}
+use Rattle.code_layout.proofs.LaidCode.{body_size_is, tokens_size_is, leaving_size_is}
 use Rattle.code_layout.proofs.Machine.{both}
 use Rattle.code_layout.proofs.AddedCells.{cells_more}
 

@@ -21,7 +21,7 @@ use Rattle.word_table.specs.declared.word.Word.TheVariants.{Go, TypeOut}
 use Rattle.word_laws.specs.Control.{HoldsInstruction, halt_cells}
 use Rattle.word_laws.specs.Standing.{standing_as, StandIn, machine_at}
 use Rattle.code_layout.specs.Layout.{Routine, Definition, Library, Executing, Aborting, Leaving, type_routine, return_cell, reaches_end, cell_if, size, body_size}
-use Rattle.code_layout.specs.Layout.{nodes_cells, body_cells, bodies_cells, begins_at, bodies_size, execute_cells, abort_cells, tokens_cells, token_size, tokens_size, go_cells, leaving_cells, leaving_size}
+use Rattle.code_layout.specs.Layout.{nodes_cells, body_cells, bodies_cells, begins_at, bodies_size, execute_cells, abort_cells, tokens_cells, token_size, go_cells, leaving_cells, leaving_size}
 use Rattle.code_layout.specs.Layout.{token_jumps, library_place, execute_place, abort_place, first_place, tokens_place, leaving_place, routine_place, header, laid_out}
 use Rattle.code_layout.specs.Numbering.{library_number}
 use Rattle.forth_program.specs.SourceTokens.{tokens_of, all_tokens}

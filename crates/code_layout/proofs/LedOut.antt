@@ -1,28 +1,28 @@
 -- Where GO leads the machine, from the start of a run.
-use Rattle.std.proofs.Common.{◌≡◌, ℕ, zero, suc, ◌+◌, ◌/◌, ◌%◌, ◌≤◌, ◌⊎◌, inl, inr, ⊎_elim, Bool, true, false, List, [], ◌∷◌, length, Option, Some, None, refl, sym, ap, ◌∙◌, subst, arith}
+use Rattle.std.proofs.Common.{◌≡◌, ℕ, zero, suc, ◌+◌, ◌/◌, ◌%◌, ⊎_elim, false, List, ◌∷◌, length, refl, sym, ap, ◌∙◌, subst, arith}
 use Rattle.j1_table.specs.Instruction.{decoded}
 use Rattle.j1_simulator.specs.OpenMachine.{open_storage}
-use Rattle.j1_simulator.specs.Run.{run, begun, open_start, open_run}
+use Rattle.j1_simulator.specs.Run.{run, begun, open_start}
 use Rattle.word_table.specs.declared.word.Word.TheVariants.{Go}
-use Rattle.forth_program.specs.Tree.{Node, Nodes, Literal, Plain, Call, Child, Text, If, Until, While, Again, Do, QDo, Case, Leave, Exit}
-use Rattle.forth_program.specs.State.{Work, Todo, World, State, Outcome, Goes, Ends}
+use Rattle.forth_program.specs.Tree.{Nodes}
+use Rattle.forth_program.specs.State.{Work, State, Outcome, Goes, Ends}
 use Rattle.forth_program.specs.Tail.{ends_body}
-use Rattle.forth_program.specs.Program.{SourceProgram, body_of}
-use Rattle.forth_program.specs.Form.{may_be_token, has_no_go}
-use Rattle.forth_program.specs.Step.{IsWord, first_in, first_work, step}
+use Rattle.forth_program.specs.Program.{SourceProgram}
+use Rattle.forth_program.specs.Form.{has_no_go}
+use Rattle.forth_program.specs.Step.{IsWord, first_work, step}
 use Rattle.forth_program.specs.Run.{source_run, steps, first_state, end_of, leaves}
 use Rattle.forth_program.specs.Price.{step_price, spent_after, spent, price}
-use Rattle.forth_program.specs.Heights.{return_height, peak_of, back_of, StacksFit, StepsFit, IsSafe}
+use Rattle.forth_program.specs.Heights.{peak_of, back_of, IsSafe}
 use Rattle.word_laws.specs.Rings.{OpenConfiguration, BeforeEach}
 use Rattle.word_laws.specs.Bounds.{StaysWithin}
-use Rattle.word_laws.specs.Standing.{return_places, standing_at_depths, standing_as, machine_at}
-use Rattle.code_layout.specs.Layout.{Routine, Definition, Leaving, leaving_place, routine_place, laid_out}
+use Rattle.word_laws.specs.Standing.{return_places, standing_as, machine_at}
+use Rattle.code_layout.specs.Layout.{leaving_place, routine_place, laid_out}
 use Rattle.code_layout.specs.Built.{IsBuilt}
 use Rattle.code_layout.specs.Library.{IsLibrary, LibraryMeans}
 use Rattle.code_layout.specs.Agreement.{AreBytes, code_of}
 use Rattle.code_layout.specs.Leaving.{IsLedOut, ImagesAreLedOut}
 use Rattle.code_layout.proofs.Machine.{Laws, wider}
-use Rattle.code_layout.proofs.Runs.{steps_on, steps_end, spent_on, no_steps, nothing_spent, StandsAs, StandsWhere, Reaches, height_is}
+use Rattle.code_layout.proofs.Runs.{steps_on, steps_end, spent_on, StandsAs, StandsWhere, height_is}
 use Rattle.code_layout.proofs.Image.{code_size, leaves as go_code}
 use Rattle.code_layout.proofs.Simulation.{Main, main_reaches, called, from_main, main, stand}
 use Rattle.code_layout.proofs.ReturningRuns.{token_no_go}

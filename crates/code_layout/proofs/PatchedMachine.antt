@@ -1,17 +1,14 @@
 -- Instructions do not see cells before data space: a cell that is not executed may be any.
-use Rattle.std.proofs.Common.{◌≡◌, ◌≢◌, ℕ, zero, suc, ◌+◌, ◌/◌, ◌*◌, ◌<◌, ◌≤◌, ◌==◌, ◌&&◌, Bool, true, false, if◌then◌else◌, List, [], ◌∷◌, ◌++◌, length, slice_index, slice_set, Option, Some, None, refl, sym, ap, ◌∙◌, subst, arith}
+use Rattle.std.proofs.Common.{◌≡◌, ◌≢◌, ℕ, zero, suc, ◌/◌, ◌<◌, ◌≤◌, ◌==◌, ◌&&◌, Bool, true, false, if◌then◌else◌, List, [], ◌∷◌, length, slice_index, slice_set, Option, Some, None, refl, sym, ap, ◌∙◌, arith}
 use Rattle.std.specs.Prelude.{not, nat_le, nat_lt}
 use Rattle.std.proofs.lemmas.Bool.Decides.{nat_tests}
 use Rattle.std.proofs.lemmas.List.{length-set, set-get_or, get_or-set_same, get_or-set_other}
 use Rattle.console_ports.specs.Ports.{access_at, even}
 use Rattle.console_ports.specs.declared.ports.Access.{Access}
 use Rattle.console_ports.specs.declared.ports.Access.TheVariants.{Data, Print, Key, Halt, Outside}
-use Rattle.j1_table.specs.Instruction.{decoded}
 use Rattle.j1_simulator.specs.declared.effects.Effect.{Effect}
-use Rattle.j1_simulator.specs.declared.effects.Output.{Output}
 use Rattle.j1_simulator.specs.declared.effects.Output.TheVariants.{Silent}
-use Rattle.j1_simulator.specs.Effect.{effect}
-use Rattle.j1_simulator.specs.Step.{Core, Stop, Reach, Reaches, Asks, Faults, Transition, Advances, Takes, Terminates, if_known, fetched, stored, exchanged, accesses, next_pc, goes_on, applied, effect_at}
+use Rattle.j1_simulator.specs.Step.{Core, Stop, Reach, Reaches, Asks, Faults, Transition, Advances, Takes, Terminates, fetched, stored, exchanged, accesses, next_pc, goes_on, applied}
 use Rattle.j1_simulator.specs.OpenMachine.{Tape, top_cell, open_storage}
 use Rattle.j1_simulator.specs.Run.{taken_on, with_outcome, after_effect}
 use Rattle.word_laws.specs.Rings.{OpenConfiguration}

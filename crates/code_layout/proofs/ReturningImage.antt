@@ -1,5 +1,5 @@
 -- Images whose GO comes back do what their source means, and no more.
-use Rattle.std.proofs.Common.{◌≡◌, ℕ, zero, suc, ◌+◌, ◌-◌, ◌*◌, ◌/◌, ◌%◌, ◌<◌, ◌≤◌, ◌==◌, ◌&&◌, inl, inr, Bool, true, false, List, [], ◌∷◌, ◌++◌, length, replicate, slice_index, slice_set, Option, Some, None, refl, sym, ap, ◌∙◌, subst, append_assoc, append-nil, length-append, arith}
+use Rattle.std.proofs.Common.{◌≡◌, ℕ, zero, suc, ◌+◌, ◌-◌, ◌/◌, ◌<◌, ◌≤◌, ◌==◌, ◌&&◌, Bool, true, false, List, [], ◌∷◌, ◌++◌, length, replicate, slice_index, slice_set, Some, None, refl, sym, ap, ◌∙◌, subst, append_assoc, append-nil, length-append, arith}
 use Rattle.std.specs.Prelude.{if◌then◌else◌}
 use Rattle.std.specs.List.{All}
 use Rattle.std.proofs.lemmas.Bool.Decides.{nat_tests}
@@ -8,27 +8,27 @@ use Rattle.j1_table.specs.Instruction.{decoded}
 use Rattle.j1_simulator.specs.Effect.{following}
 use Rattle.j1_simulator.specs.Step.{Stop}
 use Rattle.j1_simulator.specs.OpenMachine.{open_storage}
-use Rattle.j1_simulator.specs.Run.{run, advanced, begun, open_start, IsPrefixOf}
+use Rattle.j1_simulator.specs.Run.{advanced, begun, open_start, IsPrefixOf}
 use Rattle.forth_program.specs.Tree.{Nodes}
-use Rattle.forth_program.specs.State.{World, State, End, Outcome, Goes, Ends}
+use Rattle.forth_program.specs.State.{End, Outcome, Goes, Ends}
 use Rattle.forth_program.specs.Program.{SourceProgram, body_of}
 use Rattle.forth_program.specs.Form.{has_no_go}
-use Rattle.forth_program.specs.Run.{first_state, world_of, end_of, lacks}
+use Rattle.forth_program.specs.Run.{first_state, world_of, end_of}
 use Rattle.forth_program.specs.RunLaws.{OnlyGoLeaves}
 use Rattle.forth_program.specs.Returns.{IsReturn, steps_back, run_back, price_back}
 use Rattle.word_laws.specs.Rings.{OpenConfiguration}
 use Rattle.word_laws.specs.Control.{HoldsInstruction}
 use Rattle.word_laws.specs.Standing.{standing_as, StandIn, machine_end, machine_at}
-use Rattle.code_layout.specs.Layout.{Routine, Definition, Leaving, branch_to, return_cell, go_cells, leaving_cells, leaving_size, execute_place, abort_place, leaving_place, routine_place, laid_out}
+use Rattle.code_layout.specs.Layout.{Definition, branch_to, return_cell, go_cells, leaving_cells, execute_place, abort_place, leaving_place, routine_place, laid_out}
 use Rattle.code_layout.specs.Built.{IsBuilt}
 use Rattle.code_layout.specs.Library.{IsLibrary, LibraryMeans}
-use Rattle.code_layout.specs.Agreement.{AreBytes, code_of, stop_of_outcome, Shows, word_steps}
+use Rattle.code_layout.specs.Agreement.{AreBytes, code_of, Shows, word_steps}
 use Rattle.code_layout.specs.Returning.{MachineReturn, backs_of, machine_back, goes_back, is_running, is_leaving, run_returning, returning_run, IsSafeReturning, ForwardReturning, BackwardReturning, ImagesReturn}
 use Rattle.code_layout.proofs.Machine.{Laws}
 use Rattle.code_layout.proofs.Work.{ahead, ahead_bound, loops_before, Meets}
 use Rattle.code_layout.proofs.Steps.{AllStand}
-use Rattle.code_layout.proofs.LaidCode.{cut, tokens_size_is}
-use Rattle.code_layout.proofs.Image.{first_world_is, front, front_size, all_parts, short, begins, main_called, execute_stands, all_stand}
+use Rattle.code_layout.proofs.LaidCode.{cut}
+use Rattle.code_layout.proofs.Image.{first_world_is, front, front_size, all_parts, begins, main_called, execute_stands, all_stand}
 use Rattle.code_layout.proofs.Library.{routines}
 use Rattle.code_layout.proofs.Simulation.{enough}
 use Rattle.code_layout.proofs.PatchedRun.{mended, run_patched, same_runs}

@@ -1,12 +1,12 @@
 -- Runs whose GO comes back, from where a state stands, on code with another cell in place of the return that ends the code of GO.
-use Rattle.std.proofs.Common.{◌≡◌, ℕ, zero, suc, ◌+◌, ◌-◌, ◌*◌, ◌/◌, ◌%◌, ◌<◌, ◌≤◌, ◌==◌, ◌⊎◌, inl, inr, ⊎_elim, cond, Bool, true, false, List, [], ◌∷◌, ◌++◌, length, slice_index, slice_set, map, Option, Some, None, refl, sym, ap, ◌∙◌, subst, length-append, arith, add-mul}
+use Rattle.std.proofs.Common.{◌≡◌, ℕ, zero, suc, ◌+◌, ◌-◌, ◌*◌, ◌/◌, ◌%◌, ◌<◌, ◌≤◌, ◌==◌, inl, inr, ⊎_elim, cond, Bool, true, false, List, [], ◌∷◌, ◌++◌, length, slice_index, slice_set, Option, Some, None, refl, sym, ap, ◌∙◌, subst, length-append, arith, add-mul}
 use Rattle.std.specs.Prelude.{pos, negsuc, ◌+ℤ◌, ◌&&◌, if◌then◌else◌}
 use Rattle.std.specs.List.{All}
 use Rattle.std.proofs.lemmas.List.Elements.{All-head, All-tail}
 use Rattle.std.proofs.lemmas.Bool.Decides.{nat_tests, leb_tells}
 use Rattle.j1_table.specs.Instruction.{decoded}
 use Rattle.j1_simulator.specs.Effect.{effect, following}
-use Rattle.j1_simulator.specs.Step.{Stop, effect_at}
+use Rattle.j1_simulator.specs.Step.{Stop}
 use Rattle.j1_simulator.specs.OpenMachine.{rest, open_storage}
 use Rattle.j1_simulator.specs.Run.{run, advanced, after_effect}
 use Rattle.word_table.specs.declared.word.Word.TheVariants.{Go, Execute, ToR}
@@ -14,16 +14,15 @@ use Rattle.forth_program.specs.Tree.{Node, Literal, Plain, Call, Child, Text, If
 use Rattle.forth_program.specs.Tail.{ends_body}
 use Rattle.forth_program.specs.State.{Entry, Cell, Loop, Work, Todo, Frame, World, State, End, Halted, InputEnded, Outside, Underflow, Unbalanced, Left, Outcome, Goes, Ends}
 use Rattle.forth_program.specs.Program.{SourceProgram}
-use Rattle.forth_program.specs.Form.{has_no_go, may_be_token}
+use Rattle.forth_program.specs.Form.{may_be_token}
 use Rattle.forth_program.specs.Step.{IsWord, first_in, first_work, step}
 use Rattle.forth_program.specs.Run.{steps, end_of, lacks, leaves}
 use Rattle.forth_program.specs.RunLaws.{OnlyGoLeaves, IsGoStep}
 use Rattle.forth_program.specs.Price.{first_price, step_price, spent}
-use Rattle.forth_program.specs.Cells.{AreCells, AreEntries, IsWorld}
-use Rattle.forth_program.specs.Heights.{DepthFits, StepsFit, DepthsFit, peak_of, back_of, execute_back, return_height}
-use Rattle.forth_program.specs.Returns.{Return, IsReturn, world_back, behind_go, state_back, come_back, steps_back, spent_back}
-use Rattle.word_laws.specs.Rings.{OpenConfiguration, BeforeEach}
-use Rattle.word_laws.specs.Bounds.{StaysWithin}
+use Rattle.forth_program.specs.Cells.{AreCells, IsWorld}
+use Rattle.forth_program.specs.Heights.{DepthFits, StepsFit, peak_of, back_of, execute_back, return_height}
+use Rattle.forth_program.specs.Returns.{Return, IsReturn, world_back, behind_go, state_back, steps_back, spent_back}
+use Rattle.word_laws.specs.Rings.{OpenConfiguration}
 use Rattle.word_laws.specs.Control.{HoldsInstruction}
 use Rattle.word_laws.specs.Standing.{return_places, standing_at_depths, standing_as, StandIn, machine_at}
 use Rattle.code_layout.specs.Layout.{Routine, Leaving}

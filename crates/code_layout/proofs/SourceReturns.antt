@@ -1,9 +1,9 @@
 -- Runs of a source that go on behind GO, up to the first GO and behind it.
-use Rattle.std.proofs.Common.{◌≡◌, ℕ, zero, suc, ◌+◌, ◌⊎◌, inl, inr, Bool, true, false, List, [], ◌∷◌, refl, sym, ap, ◌∙◌, subst, arith}
+use Rattle.std.proofs.Common.{◌≡◌, ℕ, zero, suc, ◌+◌, ◌⊎◌, inl, inr, true, false, List, [], ◌∷◌, refl, sym, ap, ◌∙◌, subst, arith}
 use Rattle.forth_program.specs.State.{World, State, End, Halted, InputEnded, Outside, Underflow, Unbalanced, Left, Outcome, Goes, Ends}
 use Rattle.forth_program.specs.Program.{SourceProgram}
 use Rattle.forth_program.specs.Step.{step}
-use Rattle.forth_program.specs.Run.{and_then, steps, leaves}
+use Rattle.forth_program.specs.Run.{steps, leaves}
 use Rattle.forth_program.specs.Price.{step_price, spent}
 use Rattle.forth_program.specs.Returns.{Return, come_back, steps_back, spent_back_after, spent_back}
 use Rattle.code_layout.proofs.Runs.{steps_on, steps_end, spent_on, spent_end}
