@@ -251,8 +251,9 @@ does_make words seed count steps before after status name asked same makes =
     subst (λ r. Does r before after status name) (sym asked)
     (subst (λ n. Makes seed count n before after status) same (makes (count_fits words seed count asked) (subst (λ n. 10000000 ≤ n) (sym same) enough)))
 
-pub does_forth : (asked : Option Request) (steps : Option ℕ) (before after : Surroundings) (answer : Answer) (status : Status) →
-    asked ≡ Some (Forth steps) → answer ≡ record { status = status; name = None } → Serves (session_steps steps) before after status → Does asked before after answer.status (named answer.name)
+pub does_forth : (request : Option Request) (steps : Option ℕ) (allowed : ℕ) (before after : Surroundings) (status : Status) (answer : Answer) →
+    request ≡ Some (Forth steps) → allowed ≡ session_steps steps → answer ≡ record { status = status; name = None } → Serves allowed before after status → Does request before after answer.status (named answer.name)
 unfolding Does
-does_forth asked steps before after answer status is same serves =
-    subst (λ a. Does asked before after a.status (named a.name)) (sym same) (subst (λ r. Does r before after status []) (sym is) serves)
+does_forth request steps allowed before after status answer asked few same serves =
+    subst (λ a. Does request before after a.status (named a.name)) (sym same)
+    (subst (λ r. Does r before after status []) (sym asked) (subst (λ n. Serves n before after status) few serves))

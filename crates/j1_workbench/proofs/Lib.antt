@@ -9,6 +9,7 @@ mod Makes
 mod Made
 mod Headline
 mod FileCompleteness
+mod Sessions
 mod Completeness
 mod MadeRuns
 mod NetCompleteness

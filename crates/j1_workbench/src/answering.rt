@@ -34,7 +34,7 @@ fn steps_allowed(steps: Option<u32>) -> u64
 }
 
 /// Does what the words of a command line ask for, but for the note.
-#[tactic(auto, using(crate::proofs::Commands::does_nothing, crate::proofs::Commands::does_run, crate::proofs::Commands::does_certify, crate::proofs::Commands::does_bound, crate::proofs::Commands::does_evaluate, crate::proofs::Commands::does_execute, crate::proofs::Commands::does_forth))]
+#[tactic(auto, using(crate::proofs::Commands::does_nothing, crate::proofs::Commands::does_run, crate::proofs::Commands::does_certify, crate::proofs::Commands::does_bound, crate::proofs::Commands::does_evaluate, crate::proofs::Commands::does_execute))]
 pub fn answer<F: Folder, C: Source, O: Sink>(
     alloc: Global,
     words: &[String],

@@ -7,6 +7,7 @@ ghost use Rattle.j1_workbench.specs.Evaluating.{Evaluates, status_after};
 use crate::answer::{Answer, answered};
 use crate::reading::read_source;
 use crate::status::Status;
+use control_flow::programs_are_sources;
 use outside_io::{Folder, Sink, Source};
 use reference_eval::{End, EvalError, EvalFinish, evaluate};
 use std::alloc::Global;
@@ -44,6 +45,7 @@ pub fn evaluate_source<F: Folder, C: Source, O: Sink>(
         (stream (C.left console.new) (C.calls console.new) (C.faults console.new)) (stream (O.held out.new) (O.calls out.new) (O.faults out.new)) in
         Evaluates source.now steps before after result.status (named result.name) }
 {
+    programs_are_sources();
     let program = match read_source(alloc, source, files) {
         Ok(program) => program,
         Err(answer) => return answer,

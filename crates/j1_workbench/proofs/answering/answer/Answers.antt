@@ -2,7 +2,7 @@ use Rattle.std.proofs.Common.{rules}
 use Rattle.std.specs.Prelude.{map}
 use Rattle.std.specs.String.{string_bytes}
 use Rattle.j1_workbench.specs.Surroundings.{stream, folder}
-use Rattle.j1_workbench.proofs.Commands.{does_build, does_list, does_assemble, does_certify, does_bound, does_net, does_evaluate, does_make}
+use Rattle.j1_workbench.proofs.Commands.{does_build, does_list, does_assemble, does_certify, does_bound, does_net, does_evaluate, does_forth, does_make}
 use Rattle.j1_workbench.proofs.answering.answer.Goals as goal
 
 pub returns-in-Some-Certify : goal.returns-in-Some-Certify
@@ -42,3 +42,8 @@ returns-in-Some-Make g c =
     does_make (map string_bytes c.args.words.now) c.in-Some-Make.seed c.in-Some-Make.count _ _ _ _ _ (search rules) c.steps_allowed-in-Some-Make.ensures
     (c.make.ensures (folder (g.F.Folder.files c.args.files.now) (g.F.Folder.calls c.args.files.now) (g.F.Folder.read_faults c.args.files.now) (g.F.Folder.write_faults c.args.files.now) (g.F.Folder.absences c.args.files.now))
     (stream (g.C.Source.left c.args.console.now) (g.C.Source.calls c.args.console.now) (g.C.Source.faults c.args.console.now)))
+
+pub returns-in-Some-Forth : goal.returns-in-Some-Forth
+returns-in-Some-Forth g c =
+    does_forth _ c.in-Some-Forth.steps c.session_steps.result _ _ c.serve.result c.answered-in-Some-Forth.result (search rules) c.session_steps.ensures c.answered-in-Some-Forth.ensures
+    (c.serve.ensures (folder (g.F.Folder.files c.args.files.now) (g.F.Folder.calls c.args.files.now) (g.F.Folder.read_faults c.args.files.now) (g.F.Folder.write_faults c.args.files.now) (g.F.Folder.absences c.args.files.now)))
