@@ -1,8 +1,9 @@
 // What the chip does on the image of a certified program.
 ghost use Rattle.chip_laws.specs.Certified.{CertifiedChipsAgree, CertifiedChipsKeepTight};
+ghost use Rattle.chip_laws.specs.Returning.{CertifiedImagesReturn};
 
-use code_layout::chips_agree;
-use depth_certifier::certified_runs_fit;
+use code_layout::{chips_agree, images_return};
+use depth_certifier::{certified_runs_fit, certified_runs_fit_behind_go};
 use forth_program::sources_stay;
 
 /// On the chip a built program without `GO` and with a valid certificate prints what its source means, both ways and within stated steps, ends
@@ -23,4 +24,13 @@ pub fn certified_chips_keep_tight()
     chips_agree();
     certified_runs_fit();
     sources_stay();
+}
+
+/// A built program with `GO` and with a valid certificate does on the open machine what its source means, both ways and within stated
+/// steps, also behind each `GO` that comes back, whatever the code that it called has made of data space and of the input.
+pub fn certified_images_return()
+    ensures { CertifiedImagesReturn }
+{
+    images_return();
+    certified_runs_fit_behind_go();
 }
