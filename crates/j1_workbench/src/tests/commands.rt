@@ -25,7 +25,6 @@ make 0 201                       | : MAIN ;                     |  |  | 1 bad wo
 eval X                           | : MAIN ;                     |  |  | 2 X: missing
 build a b                        | : MAIN ;                     |  |  | 2 a: missing
 exec a --steps 0                 | : MAIN ;                     |  |  | 2 a: missing
-forth                            | : MAIN ;                     |  |  | 15 not yet
 build a                          | : MAIN ;                     |  |  | 1 bad words
 asm a                            | : MAIN ;                     |  |  | 1 bad words
 list a b                         | : MAIN ;                     |  |  | 1 bad words
