@@ -2,3 +2,5 @@ mod KernelItems
 pub mod ReadText
 pub mod Images
 pub mod Drives
+pub mod Names
+pub mod Behind

@@ -113,7 +113,7 @@ kernel_is_certified exact = (exact kernel_program kernel_certificate (proper_tok
 
 -- ---- the definitions
 
-bodies_are : kernel_program.bodies ≡ kernel_bodies
+pub bodies_are : kernel_program.bodies ≡ kernel_bodies
 unfolding bracket_at host_part_at items_at source_at kernel_program
 bodies_are = refl
 

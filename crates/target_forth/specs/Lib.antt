@@ -2,3 +2,5 @@ pub mod Kernel
 pub mod Certificate
 pub mod Session
 pub mod Replies
+pub mod Places
+pub mod Behind

@@ -7,12 +7,16 @@ ghost use Rattle.control_flow.specs.ParseResult.{Fine};
 ghost use Rattle.control_flow.specs.SourceText.{program_in};
 ghost use Rattle.depth_certifier.specs.Certificate.{IsValid};
 ghost use Rattle.kernel_words.specs.Bodies.{IsKernel};
+ghost use Rattle.target_forth.specs.Behind.{KernelAgrees};
 ghost use Rattle.target_forth.specs.Certificate.{kernel_certificate};
 ghost use Rattle.target_forth.specs.Kernel.{kernel_program};
 ghost use Rattle.target_forth.specs.Replies.{Replies};
 
 use crate::text::KERNEL_TEXT;
+use chip_laws::certified_images_return;
+use control_flow::programs_are_sources;
 use depth_certifier::checks_are_exact;
+use forth_library::library_means;
 
 /// By the grammar of kernels the text gives a program, which is never refused and can be laid out. It has the definitions that read the source, look
 /// for names and numbers, and lay cells and headers at their places: so these do in it what the laws of `kernel_words` say.
@@ -28,6 +32,17 @@ pub fn kernel_is_certified()
     ensures { IsValid kernel_program kernel_certificate }
 {
     checks_are_exact();
+}
+
+/// On the open machine the kernel's image does what its text says, both ways and within stated steps, on every input, up to each `GO` and behind
+/// each that comes back, whatever the code that it called has made of data space and of the input.
+pub fn kernel_agrees()
+    ensures { KernelAgrees }
+{
+    kernel_is_certified();
+    library_means();
+    programs_are_sources();
+    certified_images_return();
 }
 
 /// In a small data space that has the kernel's texts, the definition REPLY prints ` ok` where no word failed, and keeps the user cells. Behind an

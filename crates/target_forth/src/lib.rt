@@ -3,10 +3,12 @@
 
 mod image;
 mod laws;
+mod places;
 mod sessions;
 mod text;
 
 pub use image::kernel_image;
-pub use laws::{kernel_is_certified, kernel_is_read, kernel_replies};
+pub use laws::{kernel_agrees, kernel_is_certified, kernel_is_read, kernel_replies};
+pub use places::{KernelPlaces, kernel_places};
 pub use sessions::{SessionError, session};
 pub use text::{KERNEL_TEXT, kernel_text};
