@@ -9,8 +9,8 @@ use Rattle.target_forth.specs.declared.places.KernelPlaces.{KernelPlaces}
 abbrev pub places_of_kernel : KernelPlaces
 places_of_kernel = record { line = line_buffer; length = length_cell; to_in = reached_cell; latest = latest_cell; word = word_buffer }
 
--- they are even, and lie one behind the other: behind the fixed cells of data space and the buffer of number output, whose last byte is 8319, and
--- before 12288, below which the kernel's first HERE lies
+-- they are even, and lie one behind the other, from behind the fixed cells of data space and the buffer of number output on, whose last byte is
+-- 8319. The kernel's text lays much more behind them, but its whole data space is more than the checker computes at once
 pub record StandApart (places : KernelPlaces) : Type 0 where
   pub even : (places.line % 2 ≡ 0) × (places.length % 2 ≡ 0) × (places.to_in % 2 ≡ 0) × (places.latest % 2 ≡ 0) × (places.word % 2 ≡ 0)
   pub start : 8320 ≤ places.line

@@ -137,6 +137,7 @@ F                                                   | F_?
 >R                                                  | >R_stack_?
 I                                                   | I_stack_?
 65536                                               | 65536_?
+99999                                               | 99999_?
 -32769                                              | -32769_?
 1F                                                  | 1F_?
 20000 ALLOT                                         | ALLOT_full_?
@@ -150,6 +151,8 @@ DEPTH .                                             | 0__ok
 ABCDEFGHIJKLMNOPQRSTUVWXYZABCDE .                   | 1__ok
 : abcdefghijklmnopqrstuvwxyzabcdef 1 ;              | abcdefghijklmnopqrstuvwxyzabcdef_?
 : sq2 dup * ; 3 SQ2 .                               | 9__ok
+: dup2 DUP + ;                                      | _ok
+4 DUP2 .                                            | 8__ok
 : A 65 EMIT ; : A A 66 EMIT ; A                     | AB_ok
 : DUP 9 ; DUP .                                     | 9__ok
 GO                                                  | GO_?
