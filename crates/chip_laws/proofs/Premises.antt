@@ -40,7 +40,8 @@ module _ (agree : ChipsAgree) (fit : CertifiedRunsFit) (stay : ProgramsStay) (li
   agrees : AgreesOnChip library p input
   agrees =
       let f = fit p z valid in
-      agree library p input form means built space bytes (f.2 input).goes_well (λ k. stay p input k lacks_go (all_may (length library) (length p.bodies) p.tokens built.token_items)) (λ k. fits_more p input (most_cells p z) (most_return_cells p z) k f.0 f.1 ((f.2 input).stacks_fit k))
+      agree library p input form means built space bytes (f.2 input).goes_well (λ k. stay p input k lacks_go (all_may (length library) (length p.bodies) p.tokens built.token_items))
+      (λ k. fits_more p input (most_cells p z) (most_return_cells p z) k f.0 f.1 ((f.2 input).stacks_fit k))
 
   keeps_tight : KeepsTight library p input z
   keeps_tight =

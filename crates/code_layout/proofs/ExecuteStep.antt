@@ -163,7 +163,8 @@ module _ (laws : Laws) (p : SourceProgram) (code : List ℕ) (place : Routine �
             (length (number_cells value)) 1 3 then_now high return_high (Goes (here w es (value ∷ c))) (omega arith) r.2
             (back_to_work next (value ∷ c) r.0 r.1 base' world fits starts returns frames' (small, fc) (omega arith) (omega arith))
 
-        child_in_hand : (d address at next : ℕ) → address < 32768 → StandIn code at (number_cells address) next → d < length p.bodies → HoldsInstruction code next (Jump (place (Definition d))) → length c + 1 ≤ high → length base' ≤ return_high →
+        child_in_hand : (d address at next : ℕ) → address < 32768 → StandIn code at (number_cells address) next → d < length p.bodies → HoldsInstruction code next (Jump (place (Definition d))) →
+            length c + 1 ≤ high → length base' ≤ return_high →
             Follows laws p code place size (At at c) 3 then_now high return_high (Goes (called p d (here w es (address ∷ c))))
         child_in_hand d address at next small stands lt holds room back =
             let cell : address < 65536 = omega arith in

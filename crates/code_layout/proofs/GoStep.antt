@@ -97,6 +97,7 @@ module _ (laws : Laws) (p : SourceProgram) (code : List ℕ) (place : Routine �
       Leads (standing_as s (machine_at code pc base data_above return_above)) high return_high 3 a c (led_places (ends_body after) pc (return_places s.entries base)) s.world
   go_leads high return_high out pc a s c base data_above return_above after m first cells stub room deep =
       let go = go_meets out pc s base after m first in
-      subst (λ cs. Leads (standing_at_depths (machine_at code pc (return_places s.entries base) data_above return_above) cs s.world) high return_high 3 a c (led_places (ends_body after) pc (return_places s.entries base)) s.world) (sym cells)
+      subst (λ cs. Leads (standing_at_depths (machine_at code pc (return_places s.entries base) data_above return_above) cs s.world) high return_high 3 a c
+      (led_places (ends_body after) pc (return_places s.entries base)) s.world) (sym cells)
       (called_stub high return_high s.world m.world m.starts (stub go.1.used) (ends_body after) pc a c s.entries base data_above return_above _ go.1.call
       (subst AreCells cells m.cells) (omega (arith, room, ap length cells)) (omega (arith, deep)))

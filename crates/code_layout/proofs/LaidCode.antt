@@ -256,7 +256,12 @@ module _ (code : List ℕ) where
         at + word_size found word < 8192 →
         (word_falls_through found tail ≡ true → K (at + word_size found word)) → PlainStands code place p tail at word K ⊎ (ExecuteStands code place p tail at word K ⊎ GoStands code place p tail at word K)
     word_placed word None tail at K is may fit h n k = inl (inl (at + length (cells_of word), fit, h, k refl))
-    word_placed word (Some (Library number)) tail at K is may fit h n k = inl (inr (place (Library number), call_stands tail (Library number) at K h n k, routine word number (number_of word number is) (let e = fit in grind (arith, nat_tests))))
+    word_placed word (Some (Library number)) tail at K is may fit h n k = inl (inr (
+      place (Library number),
+      call_stands tail (Library number) at K h n k,
+      routine word number (number_of word number is)
+          (let e = fit in grind (arith, nat_tests)),
+    ))
     word_placed word (Some Executing) tail at K is may fit h n k = inr (inl (is_execute word is, place Executing, call_stands tail Executing at K h n k, executor fit))
     word_placed word (Some Leaving) tail at K is may fit h n k = inr (inr (is_go word is, goes (subst (λ w. test (Plain w) ≡ true) (is_go word is) may), call_stands tail Leaving at K h n k))
     word_placed word (Some (Definition d)) tail at K is may fit h n k = absurd (let f : false ≡ true = fit in cc)

@@ -222,7 +222,8 @@ module _ (cells_stand : CellsStand) (library : List Nodes) (p : SourceProgram) (
       let words_size = bodies_size_is p.data_start (routine_place library p) (library_place p) library in
       let defined_size = bodies_size_is p.data_start (routine_place library p) (first_place library p) p.bodies in
       let a = cut cells 0 8 (header (routine_place library p (Definition p.main_body))) (jumps ++ (of_library ++ (of_execute ++ (of_abort ++ (of_program ++ (of_tokens ++ of_leaving)))))) end refl (omega arith) stand in
-      let b = cut cells 8 (length p.tokens) jumps (of_library ++ (of_execute ++ (of_abort ++ (of_program ++ (of_tokens ++ of_leaving))))) end (jumps_length (routine_place library p) (tokens_place library p) p.tokens) (omega (arith, h, w)) a.1 in
+      let b = cut cells 8 (length p.tokens) jumps (of_library ++ (of_execute ++ (of_abort ++ (of_program ++ (of_tokens ++ of_leaving))))) end
+      (jumps_length (routine_place library p) (tokens_place library p) p.tokens) (omega (arith, h, w)) a.1 in
       let c = cut cells (library_place p) (bodies_size library) of_library (of_execute ++ (of_abort ++ (of_program ++ (of_tokens ++ of_leaving)))) end words_size (omega (arith, h, w)) b.1 in
       let d = cut cells (execute_place library p) 15 of_execute (of_abort ++ (of_program ++ (of_tokens ++ of_leaving))) end refl (omega (arith, h, w)) c.1 in
       let g = cut cells (abort_place library p) 15 of_abort (of_program ++ (of_tokens ++ of_leaving)) end refl (omega (arith, h, w)) d.1 in
@@ -237,7 +238,8 @@ module _ (cells_stand : CellsStand) (library : List Nodes) (p : SourceProgram) (
       let h = short in
       let size = whole in
       let fixed = cut cells 1 7 (0x8000 ∷ 0xC004 ∷ 0x6023 ∷ 0 ∷ 0 ∷ 0 ∷ 0 ∷ []) (jumps ++ (of_library ++ (of_execute ++ (of_abort ++ (of_program ++ (of_tokens ++ of_leaving)))))) end refl (omega arith) stand.2 in
-      let a = cut cells 8 (length p.tokens) jumps (of_library ++ (of_execute ++ (of_abort ++ (of_program ++ (of_tokens ++ of_leaving))))) end (jumps_length (routine_place library p) (tokens_place library p) p.tokens) (omega (arith, h, size)) fixed.1 in
+      let a = cut cells 8 (length p.tokens) jumps (of_library ++ (of_execute ++ (of_abort ++ (of_program ++ (of_tokens ++ of_leaving))))) end
+      (jumps_length (routine_place library p) (tokens_place library p) p.tokens) (omega (arith, h, size)) fixed.1 in
       let b =
       cut cells (library_place p) (bodies_size library) of_library (of_execute ++ (of_abort ++ (of_program ++ (of_tokens ++ of_leaving)))) end
       (bodies_size_is p.data_start (routine_place library p) (library_place p) library) (omega (arith, h, size)) a.1 in

@@ -81,7 +81,8 @@ module _ (laws : Laws) (library : List Nodes) (form : IsLibrary library) (means 
       Led = Leads laws p (code_of library p) (routine_place library p) (code_size laws library p built) here high_here return_here 3 address cells (led_places (ends_body after) at.to (return_places s.entries at.base)) s.world
 
       led : Led
-      led = go_leads laws p (code_of library p) (routine_place library p) (code_size laws library p built) high_here return_here at.out at.to address s cells at.base at.data_above at.return_above after at.meets first has go_stands (omega arith) (omega arith)
+      led = go_leads laws p (code_of library p) (routine_place library p) (code_size laws library p built) high_here return_here at.out at.to
+          address s cells at.base at.data_above at.return_above after at.meets first has go_stands (omega arith) (omega arith)
 
       led_out : Led → IsLedOut library p input k address cells s.world
       unfolding source_run price

@@ -116,7 +116,8 @@ module _ (code code' : List ℕ) (last data_start : ℕ) (below : last < data_st
       let next = kept last 0x6001 data_start below w.stop (effect_at w.core) w k in
       let later = pass returns high return_high n j (advanced w.stop open_storage data_start w) within.1 next in (
         ap (λ i. run_patched code' last data_start returns i w) (more n j)
-            ∙ ap (λ b. if b then goes_back code' returns (returned last data_start w) (λ others v. run_patched code' last data_start others (n + j) v) else run_patched code' last data_start returns (n + j) (advanced w.stop open_storage data_start w)) not
+            ∙ ap (λ b. if b then goes_back code' returns (returned last data_start w) (λ others v. run_patched code' last data_start others (n + j) v) else run_patched code' last data_start returns (n + j)
+            (advanced w.stop open_storage data_start w)) not
             ∙ later.0,
         later.1,
       )

@@ -112,7 +112,8 @@ known_base code place p (f ∷ fs) base h = by (ends_body f.work) h.1 (known_bas
 module _ (laws : Laws) (only : OnlyGoLeaves) (p : SourceProgram) (code code' : List ℕ) (place : Routine → ℕ) (size : length code' ≡ p.data_start / 2) (all : AllStand laws p code' place size)
     (last : ℕ) (last_is : last ≡ following (place Leaving)) (below : last < p.data_start / 2)
     (first_cell : StandIn code' (place Leaving) (0x6147 ∷ []) (following (place Leaving))) (return_cell : HoldsInstruction code last (decoded 0x700C))
-    (cell : (space : List ℕ) → slice_index (code ++ space) last ≡ 0x700C) (cell' : (space : List ℕ) → slice_index (code' ++ space) last ≡ 0x6001) (codes : (space : List ℕ) → slice_set (code ++ space) last 0x6001 ≡ code' ++ space) (mends : (space : List ℕ) → slice_set (code' ++ space) last 0x700C ≡ code ++ space)
+    (cell : (space : List ℕ) → slice_index (code ++ space) last ≡ 0x700C) (cell' : (space : List ℕ) → slice_index (code' ++ space) last ≡ 0x6001)
+    (codes : (space : List ℕ) → slice_set (code ++ space) last 0x6001 ≡ code' ++ space) (mends : (space : List ℕ) → slice_set (code' ++ space) last 0x700C ≡ code ++ space)
     (returns_at : ℕ) (returns_there : Returns code' place p returns_at) (apart : (returns_at == last) ≡ false) where
   abbrev patched : List MachineReturn → ℕ → OpenConfiguration → OpenConfiguration
   patched returns n w = run_patched code' last p.data_start returns n w
@@ -132,12 +133,17 @@ module _ (laws : Laws) (only : OnlyGoLeaves) (p : SourceProgram) (code code' : L
       let x = standing_at_depths (machine_at code last (Some a ∷ returns) up up') c world in
       let y = standing_at_depths (machine_at code (a / 2 % 0x2000) returns up (Some a ∷ up')) c world in
       let leads = laws.returns p.data_start a (machine_at code last returns up up') c world return_cell in
-      let made : after_effect None open_storage p.data_start (effect last (decoded 0x700C)) (standing_at_depths (machine_at code last (Some a ∷ returns) up up') c world) ≡ standing_at_depths (machine_at code (a / 2 % 0x2000) returns up (Some a ∷ up')) c world =
+      let made : after_effect None open_storage p.data_start (effect last (decoded 0x700C)) (standing_at_depths (machine_at code last (Some a ∷ returns) up up') c world) ≡ standing_at_depths
+      (machine_at code (a / 2 % 0x2000) returns up (Some a ∷ up')) c world =
       ap (λ n. after_effect None open_storage p.data_start (effect last (decoded n)) (standing_at_depths (machine_at code last (Some a ∷ returns) up up') c world)) (sym (cell world.space)) ∙ leads.makes in
-      ap (λ m. after_effect None open_storage p.data_start (effect last (decoded 0x700C)) (record (standing_at_depths (machine_at code' last (Some a ∷ returns) up up') c world) { core = record (standing_at_depths (machine_at code' last (Some a ∷ returns) up up') c world).core { memory = m } })) (sym (codes world.space))
+      ap (λ m. after_effect None open_storage p.data_start (effect last (decoded 0x700C)) (record
+      (standing_at_depths (machine_at code' last (Some a ∷ returns) up up') c world) { core = record (standing_at_depths (machine_at code' last (Some a ∷ returns) up up') c world).core { memory = m } })) (sym (codes world.space))
       ∙ after_set last 0x6001 p.data_start below None (effect last (decoded 0x700C)) x
       ∙ ap (set_cell last 0x6001 p.data_start below) made
-      ∙ ap (λ m. record (standing_at_depths (machine_at code' (a / 2 % 0x2000) returns up (Some a ∷ up')) c world) { core = record (standing_at_depths (machine_at code' (a / 2 % 0x2000) returns up (Some a ∷ up')) c world).core { memory = m } }) (codes world.space)
+      ∙ ap (λ m. record (standing_at_depths (machine_at code' (a / 2 % 0x2000) returns up (Some a ∷ up')) c world) {
+        core = record
+            (standing_at_depths (machine_at code' (a / 2 % 0x2000) returns up (Some a ∷ up')) c world).core { memory = m };
+      }) (codes world.space)
 
   record AtLast (v : OpenConfiguration) (count a : ℕ) (c : List ℕ) (returns : List (Option ℕ)) (world : World) : Type 0 where
     high : ℕ
@@ -159,10 +165,12 @@ module _ (laws : Laws) (only : OnlyGoLeaves) (p : SourceProgram) (code code' : L
         return_high = length returns + 9;
         up = one.0;
         up' = one.1;
-        runs = subst (λ q. Runs p.data_start (length c + 9) (length returns + 9) 1 (standing_at_depths (machine_at code' (place Leaving) returns data_above return_above) (a ∷ c) world) (standing_at_depths (machine_at code' q (Some a ∷ returns) one.0 one.1) c world)) (sym last_is) one.2;
+        runs = subst (λ q. Runs p.data_start (length c + 9) (length returns + 9) 1 (standing_at_depths (machine_at code' (place Leaving) returns data_above return_above) (a ∷ c) world)
+            (standing_at_depths (machine_at code' q (Some a ∷ returns) one.0 one.1) c world)) (sym last_is) one.2;
       }
 
-  call_to_last : (tail : Bool) (pc a : ℕ) (c : List ℕ) (places data_above return_above : List (Option ℕ)) (K : Type 0) (world : World) → IsWorld world → world.data_start ≡ p.data_start → AreCells (a ∷ c) → CallStands code' place p tail pc (place Leaving) K →
+  call_to_last : (tail : Bool) (pc a : ℕ) (c : List ℕ) (places data_above return_above : List (Option ℕ)) (K : Type 0) (world : World) → IsWorld world → world.data_start ≡ p.data_start → AreCells (a ∷ c) →
+      CallStands code' place p tail pc (place Leaving) K →
       AtLast (standing_at_depths (machine_at code' pc places data_above return_above) (a ∷ c) world) 2 a c (led_places tail pc places) world
   call_to_last true pc a c places data_above return_above K world fits starts fc holds =
       let two = to_last a c places data_above return_above world fits starts fc in
@@ -176,7 +184,14 @@ module _ (laws : Laws) (only : OnlyGoLeaves) (p : SourceProgram) (code code' : L
       let runs = two.runs in
       let more : Runs p.data_start (two.high + suc (length c)) (two.return_high + length places) 1 entered (standing_at_depths (machine_at code' last (Some a ∷ places) two.up two.up') c world) =
       record { makes = runs.makes; bounds = wider laws p.data_start 0 two.high 0 two.return_high (two.high + suc (length c)) (two.return_high + length places) 1 entered (omega arith) (omega arith) runs.bounds } in
-      record { high = two.high + suc (length c); return_high = two.return_high + length places; up = two.up; up' = two.up'; runs = runs_then laws p.data_start (two.high + suc (length c)) (two.return_high + length places) 1 1 from entered _ one more }
+      record {
+        high = two.high + suc (length c);
+        return_high = two.return_high + length places;
+        up = two.up;
+        up' = two.up';
+        runs = runs_then laws p.data_start (two.high + suc (length c))
+            (two.return_high + length places) 1 1 from entered _ one more;
+      }
   call_to_last false pc a c places data_above return_above K world fits starts fc holds =
       let two = to_last a c (Some (2 * following pc) ∷ places) data_above (rest return_above) world fits starts fc in
       let from = standing_at_depths (machine_at code' pc places data_above return_above) (a ∷ c) world in
@@ -187,7 +202,14 @@ module _ (laws : Laws) (only : OnlyGoLeaves) (p : SourceProgram) (code code' : L
       let runs = two.runs in
       let more : Runs p.data_start (two.high + suc (length c)) (two.return_high + length places) 1 entered (standing_at_depths (machine_at code' last (Some a ∷ Some (2 * following pc) ∷ places) two.up two.up') c world) =
       record { makes = runs.makes; bounds = wider laws p.data_start 0 two.high 0 two.return_high (two.high + suc (length c)) (two.return_high + length places) 1 entered (omega arith) (omega arith) runs.bounds } in
-      record { high = two.high + suc (length c); return_high = two.return_high + length places; up = two.up; up' = two.up'; runs = runs_then laws p.data_start (two.high + suc (length c)) (two.return_high + length places) 1 1 from entered _ one more }
+      record {
+        high = two.high + suc (length c);
+        return_high = two.return_high + length places;
+        up = two.up;
+        up' = two.up';
+        runs = runs_then laws p.data_start (two.high + suc (length c))
+            (two.return_high + length places) 1 1 from entered _ one more;
+      }
 
   -- where a step of GO is next
   record GoHere (pc : ℕ) (s : State) (after : List Work) : Type 0 where
@@ -440,7 +462,8 @@ module _ (laws : Laws) (only : OnlyGoLeaves) (p : SourceProgram) (code code' : L
           world = world_fits r.back t.world is m.world m.starts;
           starts = m.starts;
         } in
-        let b = claims i total (following pc) here.out (record { work = g.after; entries = t.entries; callers = t.callers; cells = g.cells; world = world_back r.back t.world }) base r.data_above (Some (2 * following pc) ∷ r.return_above) meets lack depths in
+        let b = claims i total (following pc) here.out (record { work = g.after; entries = t.entries; callers = t.callers; cells = g.cells; world = world_back r.back t.world }) base r.data_above
+        (Some (2 * following pc) ∷ r.return_above) meets lack depths in
         let back_there : 2 * following pc / 2 % 0x2000 ≡ following pc = same_place pc in
         let is_there =
         back_is r (address / 2 % 0x2000) (2 * following pc) (return_places t.entries base) up up' g.cells t.world
@@ -525,7 +548,8 @@ module _ (laws : Laws) (only : OnlyGoLeaves) (p : SourceProgram) (code code' : L
           at.is ∙ ap (λ cs. standing_at_depths (machine_at code' at.to (return_places l.last.entries at.base) at.data_above at.return_above) cs l.last.world) go_step.address_is in
           (pass code code' last p.data_start below mends long returns fit.0 fit.1 r.count (2 + suc j) from (r.before fit.0 fit.1 fit.2) (keeps pc (return_places s.entries base) data_above return_above s.cells s.world)).0
           ∙ ap (patched returns (2 + suc j)) same
-          ∙ (pass code code' last p.data_start below mends long returns two.high two.return_high 2 (suc j) there two.runs.bounds (keeps at.to (return_places l.last.entries at.base) at.data_above at.return_above (l.address ∷ go_step.cells) l.last.world)).0
+          ∙ (pass code code' last p.data_start below mends long returns two.high two.return_high 2 (suc j) there two.runs.bounds
+          (keeps at.to (return_places l.last.entries at.base) at.data_above at.return_above (l.address ∷ go_step.cells) l.last.world)).0
           ∙ ap (patched returns (suc j)) two.runs.makes
           ∙ at_last returns j l.address go_step.cells places two.up two.up' l.last.world
 
@@ -560,7 +584,8 @@ module _ (laws : Laws) (only : OnlyGoLeaves) (p : SourceProgram) (code code' : L
           let total' = spent p total l.j s + step_price l.last in
           let behind_is = behind p (backs_of (x ∷ returns)) total l.j l.i s l.last l.address l.world l.goes l.ends in
           let then_is' = then_is l.last at.to l.address at.base at.out at.meets go_world x.back in
-          let steps_are : steps_back p (backs_of (x ∷ returns)) k s ≡ steps_back p (backs_of returns) l.i (record { work = go_step.after; entries = l.last.entries; callers = l.last.callers; cells = go_step.cells; world = world_back x.back l.last.world }) =
+          let steps_are : steps_back p (backs_of (x ∷ returns)) k s ≡ steps_back p (backs_of returns) l.i
+          (record { work = go_step.after; entries = l.last.entries; callers = l.last.callers; cells = go_step.cells; world = world_back x.back l.last.world }) =
           ap (λ n. steps_back p (backs_of (x ∷ returns)) n s) l.parts ∙ behind_is.0 ∙ ap (steps_back p (backs_of returns) l.i) then_is' in
           let spends : spent_back p (backs_of (x ∷ returns)) total k s
           ≡ spent_back p (backs_of returns) (spent p total l.j s + step_price l.last) l.i (record { work = go_step.after; entries = l.last.entries; callers = l.last.callers; cells = go_step.cells; world = world_back x.back l.last.world }) =

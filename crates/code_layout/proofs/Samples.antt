@@ -68,7 +68,8 @@ line_falls_through (Then node rest) line = absurd line
 abbrev behind : List ℕ → List ℕ
 behind cells = execute_cells 8 0 ++ (abort_cells 23 0 ++ cells)
 
-one_line : (body : Nodes) (count : ℕ) → IsLine body → (laid_out [] (program (body ∷ []) 0 count)).cells ≡ 0x4026 ∷ 0x8000 ∷ 0xC004 ∷ 0x6023 ∷ 0 ∷ 0 ∷ 0 ∷ 0 ∷ behind (((line_cells body ++ 0x700C ∷ []) ++ []) ++ leaving_cells (everywhere is_not_go body && true))
+one_line : (body : Nodes) (count : ℕ) → IsLine body → (laid_out [] (program (body ∷ []) 0 count)).cells ≡ 0x4026 ∷ 0x8000 ∷ 0xC004 ∷ 0x6023 ∷ 0 ∷ 0 ∷ 0 ∷ 0 ∷ behind
+    (((line_cells body ++ 0x700C ∷ []) ++ []) ++ leaving_cells (everywhere is_not_go body && true))
 one_line body count line =
     ap (λ cells. header 38 ++ behind (((cells ++ cell_if (reaches_end true true body) 0x700C) ++ []) ++ leaving_cells (everywhere is_not_go body && true))) (line_is_laid body (routine_place [] (program (body ∷ []) 0 count)) 0 38 line)
     ∙ ap (λ reached. header 38 ++ behind (((line_cells body ++ cell_if reached 0x700C) ++ []) ++ leaving_cells (everywhere is_not_go body && true))) (line_falls_through body line)
@@ -380,7 +381,8 @@ two_goes_well = record { lacks_nothing = refl; depth_fits = each_is DepthIsFit t
 
 two_does_as_much : ImagesAgree → ForwardSimulation [] two [] 10
 unfolding two
-two_does_as_much agree = agree.forward [] two [] 10 (record { items = refl; own_items = refl; leaves_in_loops = refl }) (λ word number is lt. absurd (omega arith)) two_is_built (search rules) (search rules) two_goes_well (ap leaves two_means)
+two_does_as_much agree = agree.forward [] two [] 10 (record { items = refl; own_items = refl; leaves_in_loops = refl }) (λ word number is lt. absurd (omega arith)) two_is_built (search rules)
+    (search rules) two_goes_well (ap leaves two_means)
 
 -- ---- a library that means its words
 

@@ -85,7 +85,8 @@ module _ (laws : Laws) (library : List Nodes) (form : IsLibrary library) (means 
   pub called : (high return_high : ℕ) → BeforeEach (StaysWithin 0 high 0 return_high) p.data_start 1 start × (run open_storage p.data_start 1 start ≡ main)
   called high return_high =
       let v = standing_as (first_state p input) (machine_at (code_of library p) 0 [] [] []) in
-      let leads = laws.calls p.data_start (places (Definition p.main_body)) (machine_at (code_of library p) 0 [] [] []) [] (first_state p input).world (main_called laws library p built (code_of library p) (code_size laws library p built) (front_stands laws library p built)) in
+      let leads = laws.calls p.data_start (places (Definition p.main_body)) (machine_at (code_of library p) 0 [] [] []) [] (first_state p input).world
+      (main_called laws library p built (code_of library p) (code_size laws library p built) (front_stands laws library p built)) in
       let one = runs_one laws p.data_start 0 0 high return_high v main (omega arith) (omega arith) leads in
       (subst (BeforeEach (StaysWithin 0 high 0 return_high) p.data_start 1) (sym (begins laws library p built input)) one.bounds, ap (run open_storage p.data_start 1) (begins laws library p built input) ∙ one.makes)
 
@@ -100,7 +101,8 @@ module _ (laws : Laws) (library : List Nodes) (form : IsLibrary library) (means 
   pub main_reaches : (k : ℕ) → IsSafe p input k → leaves (source_run p input k) ≡ false → Main k
   unfolding source_run
   main_reaches k well stays =
-      reaches laws p (code_of library p) places (code_size laws library p built) stand k 8 (places (Definition p.main_body)) None (first_state p input) (Some 2 ∷ []) [] [] main_meets (strays_not (steps p k (first_state p input)) well.lacks_nothing stays) well.depth_fits
+      reaches laws p (code_of library p) places (code_size laws library p built) stand k 8 (places (Definition p.main_body)) None (first_state p input) (Some 2 ∷ []) [] [] main_meets
+      (strays_not (steps p k (first_state p input)) well.lacks_nothing stays) well.depth_fits
 
   as_much_from : (k : ℕ) → Main k → ForwardSimulation library p input k
   unfolding source_run price
@@ -154,7 +156,8 @@ module _ (laws : Laws) (library : List Nodes) (form : IsLibrary library) (means 
   pub no_more : (n : ℕ) → IsSafe p input (word_steps p n) → leaves (source_run p input (word_steps p n)) ≡ false → BackwardSimulation library p input n
   no_more n well stays =
       let m = as_much (word_steps p n) well stays in
-      let parts = no_more_by n m.count (source_run p input (word_steps p n)) (strays_not (source_run p input (word_steps p n)) well.lacks_nothing stays) m.shows (λ e. let lt : n < m.count = m.far_enough n (omega arith) e in omega (arith, lt)) in
+      let parts = no_more_by n m.count (source_run p input (word_steps p n)) (strays_not (source_run p input (word_steps p n)) well.lacks_nothing stays) m.shows
+      (λ e. let lt : n < m.count = m.far_enough n (omega arith) e in omega (arith, lt)) in
       record { prints = parts.0; ends = parts.1 }
 
 pub images_agree : Laws → ImagesAgree

@@ -36,12 +36,7 @@ fn session_status(session: Result<Finish, SessionError>) -> Status
 }
 
 /// A session with the interactive Forth on the console and out, for at most `steps` instructions.
-pub fn serve<C: Source, O: Sink>(
-    alloc: Global,
-    steps: u64,
-    console: &mut C,
-    out: &mut O,
-) -> Status
+pub fn serve<C: Source, O: Sink>(alloc: Global, steps: u64, console: &mut C, out: &mut O) -> Status
     ensures { let console_before = stream (C.left console.old) (C.calls console.old) (C.faults console.old) in
         let console_after = stream (C.left console.new) (C.calls console.new) (C.faults console.new) in
         let out_before = stream (O.held out.old) (O.calls out.old) (O.faults out.old) in

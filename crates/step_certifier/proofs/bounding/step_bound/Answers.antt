@@ -12,4 +12,5 @@ returns-clause-ends c =
     steps_of c.args.program.now c.in_ok-costs.costs.items c.main-main.result.0 c.cost_of.result (Some c.in-Some-steps_for.steps) (search rules) c.in_ok-costs.ensures.items c.main-main.ensures.value (search rules)
     c.in-Some-steps_for.ensures in
     subst (λ (i : Content). EndsOnChip i c.in-Some-steps_for.steps) (sym c.requires.laid_out)
-    (c.bounded_images_end.ensures whole_library c.args.program.now c.args.certificate.now c.in-Some-steps_for.steps c.library_means.ensures.form c.library_means.ensures.means c.requires.built c.requires.bytes c.requires.without_go c.requires.certified bounded)
+    (c.bounded_images_end.ensures whole_library c.args.program.now c.args.certificate.now c.in-Some-steps_for.steps c.library_means.ensures.form c.library_means.ensures.means
+    c.requires.built c.requires.bytes c.requires.without_go c.requires.certified bounded)
