@@ -10,13 +10,18 @@ use Rattle.forth_program.specs.Form.{IsProgram, everywhere, calls_go_back, is_co
 use Rattle.forth_program.specs.Weight.{bodies_weight}
 use Rattle.forth_program.specs.Program.{SourceProgram}
 use Rattle.forth_program.specs.SourceTokens.{all_tokens}
-use Rattle.control_flow.specs.ParseResult.{Fine, Endless}
+use Rattle.control_flow.specs.ParseResult.{Fine, Endless, ◌>>=◌}
 use Rattle.control_flow.specs.Ticks.{tokens_weight}
-use Rattle.control_flow.specs.SourceText.{program_in, program_of_text}
+use Rattle.control_flow.specs.SourceText.{program_of_source, program_in, program_of_text}
+use Rattle.control_flow.specs.Pieces.{source_in}
 
 -- a text has a program or a first refusal, in each vocabulary
 abbrev pub EachIsJudged : Type 0
 EachIsJudged = (words : Vocabulary) (text : List ℕ) → program_in words text ≡ Endless → ⊥
+
+-- the program of a text is that of what the text has come to at its end
+abbrev pub EachEndsInItsSource : Type 0
+EachEndsInItsSource = (words : Vocabulary) (text : List ℕ) → program_in words text ≡ (source_in words text >>= λ last. program_of_source last last.at)
 
 -- inline and library words, and the six on return entries
 abbrev pub is_plain : Word → Bool

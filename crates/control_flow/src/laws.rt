@@ -1,5 +1,5 @@
 // What holds of all source texts.
-ghost use Rattle.control_flow.specs.SourceLaw.{EachIsJudged, EachProgramIsSource, SourcesHaveNoGo, TestsWiden};
+ghost use Rattle.control_flow.specs.SourceLaw.{EachEndsInItsSource, EachIsJudged, EachProgramIsSource, SourcesHaveNoGo, TestsWiden};
 
 use host_state::host_words_keep;
 use word_table::each_is_found;
@@ -10,6 +10,12 @@ pub fn texts_are_judged()
 {
     host_words_keep();
 }
+
+/// The program of a text is that of what the text has come to at its end: of its definitions, of the names there, and of what host words
+/// have made of data space. Where the text is refused before its end, that is its refusal.
+pub fn texts_end_in_sources()
+    ensures { EachEndsInItsSource }
+{}
 
 /// The program of a text meets the condition of a program; its numbers are cells, its words are inline, of the library or on
 /// return entries, its calls lead to the definition in which they stand or to earlier ones, and its texts lie in data space; so do its

@@ -25,7 +25,7 @@ mod source;
 mod structures;
 mod ticks;
 
-pub use laws::{programs_are_sources, tests_widen, texts_are_judged};
+pub use laws::{programs_are_sources, tests_widen, texts_are_judged, texts_end_in_sources};
 pub use nest::{Ending, Nest, Open};
 pub use pieces::Reading;
 pub use refusal::{SourceCause, SourceError, SourceRefusal};
