@@ -1,8 +1,8 @@
 // What the chip does on the image of a certified program.
 ghost use Rattle.chip_laws.specs.Certified.{CertifiedChipsAgree, CertifiedChipsKeepTight};
-ghost use Rattle.chip_laws.specs.Returning.{CertifiedImagesReturn};
+ghost use Rattle.chip_laws.specs.Returning.{CertifiedImagesReturn, CertifiedChipsReturn, CertifiedChipsReturnTight};
 
-use code_layout::{chips_agree, images_return};
+use code_layout::{chips_agree, chips_return, images_return};
 use depth_certifier::{certified_runs_fit, certified_runs_fit_behind_go};
 use forth_program::sources_stay;
 
@@ -32,5 +32,16 @@ pub fn certified_images_return()
     ensures { CertifiedImagesReturn }
 {
     images_return();
+    certified_runs_fit_behind_go();
+}
+
+/// On the chip too, where that code keeps the places of the live cells: their rings hold what the stacks without end hold, and neither
+/// wraps. Along the run the counters are within what the certificate says of MAIN.
+pub fn certified_chips_return()
+    ensures agree { CertifiedChipsReturn }
+    ensures tight { CertifiedChipsReturnTight }
+{
+    chips_return();
+    certified_runs_fit();
     certified_runs_fit_behind_go();
 }

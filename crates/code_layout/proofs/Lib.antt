@@ -35,3 +35,4 @@ pub mod AddedCells
 pub mod DefinitionPlaces
 pub mod Samples
 pub mod CodeWeight
+pub mod ReturningChips

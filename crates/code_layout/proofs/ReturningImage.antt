@@ -9,6 +9,7 @@ use Rattle.j1_simulator.specs.Effect.{following}
 use Rattle.j1_simulator.specs.Step.{Stop}
 use Rattle.j1_simulator.specs.OpenMachine.{open_storage}
 use Rattle.j1_simulator.specs.Run.{advanced, begun, open_start, IsPrefixOf}
+use Rattle.j1_simulator.specs.Laws.{OnlyGrows}
 use Rattle.forth_program.specs.Tree.{Nodes}
 use Rattle.forth_program.specs.State.{End, Outcome, Goes, Ends}
 use Rattle.forth_program.specs.Program.{SourceProgram, body_of}
@@ -23,16 +24,16 @@ use Rattle.code_layout.specs.Layout.{Definition, branch_to, return_cell, go_cell
 use Rattle.code_layout.specs.Built.{IsBuilt}
 use Rattle.code_layout.specs.Library.{IsLibrary, LibraryMeans}
 use Rattle.code_layout.specs.Agreement.{AreBytes, code_of, Shows, word_steps}
-use Rattle.code_layout.specs.Returning.{MachineReturn, backs_of, machine_back, goes_back, is_running, is_leaving, run_returning, returning_run, IsSafeReturning, ForwardReturning, BackwardReturning, ImagesReturn}
-use Rattle.code_layout.proofs.Machine.{Laws}
+use Rattle.code_layout.specs.Returning.{MachineReturn, backs_of, machine_back, goes_back, is_running, is_leaving, run_returning, returning_run, StaysReturning, IsSafeReturning, StacksFitReturning, ForwardReturning, BackwardReturning, StacksReturning, ImagesReturn}
+use Rattle.code_layout.proofs.Machine.{Laws, narrower}
 use Rattle.code_layout.proofs.Work.{ahead, ahead_bound, loops_before, Meets}
 use Rattle.code_layout.proofs.Steps.{AllStand}
 use Rattle.code_layout.proofs.LaidCode.{cut}
 use Rattle.code_layout.proofs.Image.{first_world_is, front, front_size, all_parts, begins, main_called, execute_stands, all_stand}
 use Rattle.code_layout.proofs.Library.{routines}
 use Rattle.code_layout.proofs.Simulation.{enough}
-use Rattle.code_layout.proofs.PatchedRun.{mended, run_patched, same_runs}
-use Rattle.code_layout.proofs.ReturningRuns.{Back, moves, claims}
+use Rattle.code_layout.proofs.PatchedRun.{mended, run_patched, same_runs, StaysPatched, one_stays, fewer_stay, mended_stays}
+use Rattle.code_layout.proofs.ReturningRuns.{last_inside, Back, StepsFitBack, moves, claims}
 
 -- ---- two cells behind others
 
@@ -54,19 +55,19 @@ module _ (zeros : List ℕ) where
 prefix_then : (xs ys zs : List ℕ) → IsPrefixOf xs ys → IsPrefixOf ys zs → IsPrefixOf xs zs
 prefix_then xs ys zs a b = (a.0 ++ b.0, sym (append_assoc xs a.0 b.0) ∙ ap (λ l. l ++ b.0) a.1 ∙ b.1)
 
-module _ (laws : Laws) (code : List ℕ) (last data_start : ℕ) where
+module _ (grows : OnlyGrows open_storage) (code : List ℕ) (last data_start : ℕ) where
   abbrev next : OpenConfiguration → OpenConfiguration
   next w = advanced w.stop open_storage data_start w
 
   abbrev returning : List MachineReturn → ℕ → OpenConfiguration → OpenConfiguration
-  returning returns n w = run_returning code last data_start returns n w
+  returning returns n w = run_returning open_storage (machine_back code) last data_start returns n w
 
   one_more : (w : OpenConfiguration) → IsPrefixOf w.printed (next w).printed
-  one_more w = laws.grows.prints data_start 0 1 w (omega arith)
+  one_more w = grows.prints data_start 0 1 w (omega arith)
 
   -- one instruction, and what follows it
   step_is : (returns : List MachineReturn) (n : ℕ) (w : OpenConfiguration) → returning returns (suc n) w
-      ≡ (if is_leaving last w then goes_back code returns (next w) (λ others v. run_returning code last data_start others n v) else run_returning code last data_start returns n (next w))
+      ≡ (if is_leaving last w then goes_back (machine_back code) returns (next w) (λ others v. run_returning open_storage (machine_back code) last data_start others n v) else run_returning open_storage (machine_back code) last data_start returns n (next w))
   unfolding run_returning
   step_is returns n w = refl
 
@@ -79,7 +80,7 @@ module _ (laws : Laws) (code : List ℕ) (last data_start : ℕ) where
   prints_grow returns (suc n) w = subst (λ u. IsPrefixOf w.printed u.printed) (sym (step_is returns n w)) (by returns (is_leaving last w) (λ others v. prints_grow others n v))
     where
       by : (returns : List MachineReturn) (b : Bool) → ((others : List MachineReturn) (v : OpenConfiguration) → IsPrefixOf v.printed (returning others n v).printed) →
-          IsPrefixOf w.printed (if b then goes_back code returns (next w) (λ others v. run_returning code last data_start others n v) else run_returning code last data_start returns n (next w)).printed
+          IsPrefixOf w.printed (if b then goes_back (machine_back code) returns (next w) (λ others v. run_returning open_storage (machine_back code) last data_start others n v) else run_returning open_storage (machine_back code) last data_start returns n (next w)).printed
       by returns false later = prefix_then w.printed (next w).printed (returning returns n (next w)).printed (one_more w) (later returns (next w))
       by [] true later = one_more w
       by (r ∷ returns) true later =
@@ -87,19 +88,19 @@ module _ (laws : Laws) (code : List ℕ) (last data_start : ℕ) where
           prefix_then w.printed (next w).printed (returning returns n (machine_back code r (next w))).printed (one_more w)
           (prefix_then (next w).printed ((next w).printed ++ r.back.printed) (returning returns n (machine_back code r (next w))).printed (r.back.printed, refl) (later returns (machine_back code r (next w))))
 
-  prints_between : (returns : List MachineReturn) (m n : ℕ) (w : OpenConfiguration) → m ≤ n → IsPrefixOf (returning returns m w).printed (returning returns n w).printed
+  pub prints_between : (returns : List MachineReturn) (m n : ℕ) (w : OpenConfiguration) → m ≤ n → IsPrefixOf (returning returns m w).printed (returning returns n w).printed
   prints_between returns zero n w le = subst (λ u. IsPrefixOf u.printed (returning returns n w).printed) (sym (none_made returns w)) (prints_grow returns n w)
   prints_between returns (suc m) zero w le = absurd (omega arith)
   prints_between returns (suc m) (suc n) w le =
       subst (λ u. IsPrefixOf u.printed (returning returns (suc n) w).printed) (sym (step_is returns m w))
       (subst
       (λ u.
-      IsPrefixOf (if is_leaving last w then goes_back code returns (next w) (λ others v. run_returning code last data_start others m v) else run_returning code last data_start returns m (next w)).printed
+      IsPrefixOf (if is_leaving last w then goes_back (machine_back code) returns (next w) (λ others v. run_returning open_storage (machine_back code) last data_start others m v) else run_returning open_storage (machine_back code) last data_start returns m (next w)).printed
       u.printed) (sym (step_is returns n w)) (by returns (is_leaving last w) (λ others v. prints_between others m n v (omega arith))))
     where
       by : (returns : List MachineReturn) (b : Bool) → ((others : List MachineReturn) (v : OpenConfiguration) → IsPrefixOf (returning others m v).printed (returning others n v).printed) →
-          IsPrefixOf (if b then goes_back code returns (next w) (λ others v. run_returning code last data_start others m v) else run_returning code last data_start returns m (next w)).printed
-          (if b then goes_back code returns (next w) (λ others v. run_returning code last data_start others n v) else run_returning code last data_start returns n (next w)).printed
+          IsPrefixOf (if b then goes_back (machine_back code) returns (next w) (λ others v. run_returning open_storage (machine_back code) last data_start others m v) else run_returning open_storage (machine_back code) last data_start returns m (next w)).printed
+          (if b then goes_back (machine_back code) returns (next w) (λ others v. run_returning open_storage (machine_back code) last data_start others n v) else run_returning open_storage (machine_back code) last data_start returns n (next w)).printed
       by returns false later = later returns (next w)
       by [] true later = ([], append-nil (next w).printed)
       by (r ∷ returns) true later = later returns (machine_back code r (next w))
@@ -110,8 +111,8 @@ module _ (laws : Laws) (code : List ℕ) (last data_start : ℕ) where
       step_is returns n w
       ∙ ap
       (λ st.
-      if is_running st && (w.core.pc == last) then goes_back code returns (next w) (λ others v. run_returning code last data_start others n v)
-      else run_returning code last data_start returns n (advanced st open_storage data_start w)) e
+      if is_running st && (w.core.pc == last) then goes_back (machine_back code) returns (next w) (λ others v. run_returning open_storage (machine_back code) last data_start others n v)
+      else run_returning open_storage (machine_back code) last data_start returns n (advanced st open_storage data_start w)) e
       ∙ stopped returns n w stop e
 
   pub ends_between : (returns : List MachineReturn) (m n : ℕ) (w : OpenConfiguration) (stop : Stop) → m ≤ n → (returning returns m w).stop ≡ Some stop → returning returns n w ≡ returning returns m w
@@ -121,9 +122,9 @@ module _ (laws : Laws) (code : List ℕ) (last data_start : ℕ) where
       step_is returns n w ∙ by returns (is_leaving last w) (λ others v q. ends_between others m n v stop (omega arith) q) (ap (λ u. u.stop) (sym (step_is returns m w)) ∙ e) ∙ sym (step_is returns m w)
     where
       by : (returns : List MachineReturn) (b : Bool) → ((others : List MachineReturn) (v : OpenConfiguration) → (returning others m v).stop ≡ Some stop → returning others n v ≡ returning others m v) →
-          (if b then goes_back code returns (next w) (λ others v. run_returning code last data_start others m v) else run_returning code last data_start returns m (next w)).stop ≡ Some stop →
-          (if b then goes_back code returns (next w) (λ others v. run_returning code last data_start others n v) else run_returning code last data_start returns n (next w))
-          ≡ (if b then goes_back code returns (next w) (λ others v. run_returning code last data_start others m v) else run_returning code last data_start returns m (next w))
+          (if b then goes_back (machine_back code) returns (next w) (λ others v. run_returning open_storage (machine_back code) last data_start others m v) else run_returning open_storage (machine_back code) last data_start returns m (next w)).stop ≡ Some stop →
+          (if b then goes_back (machine_back code) returns (next w) (λ others v. run_returning open_storage (machine_back code) last data_start others n v) else run_returning open_storage (machine_back code) last data_start returns n (next w))
+          ≡ (if b then goes_back (machine_back code) returns (next w) (λ others v. run_returning open_storage (machine_back code) last data_start others m v) else run_returning open_storage (machine_back code) last data_start returns m (next w))
       by returns false later q = later returns (next w) q
       by [] true later q = refl
       by (r ∷ returns) true later q = later returns (machine_back code r (next w)) q
@@ -257,8 +258,9 @@ module _ (laws : Laws) (only : OnlyGoLeaves) (library : List Nodes) (p : SourceP
       claims laws only p (code_with 0x700C) patched_code (routine_place library p) size stand last last_is below first_cell return_stands (has 0x700C) (has 0x6001) (sets 0x700C 0x6001) (sets 0x6001 0x700C) returns_at returns_there apart
       returns come k 8 (routine_place library p (Definition p.main_body)) None (first_state p input) (Some 2 ∷ []) [] [] main_meets well.lacks_nothing well.depth_fits
 
-  long : last < length (front laws library p built ++ (0x6147 ∷ 0x6001 ∷ zeros))
-  long = let h = room in omega (arith, h, size)
+  abbrev long : last < length (front laws library p built ++ (0x6147 ∷ 0x6001 ∷ zeros))
+  long =
+      last_inside laws only p (code_with 0x700C) patched_code (routine_place library p) size stand last last_is below first_cell return_stands (has 0x700C) (has 0x6001) (sets 0x700C 0x6001) (sets 0x6001 0x700C) returns_at returns_there apart
 
   abbrev mend : OpenConfiguration → OpenConfiguration
   mend w = mended (code_with 0x700C) patched_code last p.data_start below (sets 0x6001 0x700C) long w
@@ -276,9 +278,9 @@ module _ (laws : Laws) (only : OnlyGoLeaves) (library : List Nodes) (p : SourceP
   run_is : (n : ℕ) → returning_run library p returns input (suc n) ≡ mend (run_patched patched_code last p.data_start returns n main)
   unfolding returning_run
   run_is n =
-      ap (run_returning (code_of library p) last p.data_start returns (suc n)) (begins laws library p built input ∙ ap (λ code. standing_as (first_state p input) (machine_at code 0 [] [] [])) code_is)
-      ∙ ap (λ code. run_returning code last p.data_start returns (suc n) (standing_as (first_state p input) (machine_at (code_with 0x700C) 0 [] [] []))) code_is
-      ∙ ap (λ m. run_returning (code_with 0x700C) last p.data_start returns (suc n) (record start { core = record start.core { memory = m } })) (sym (sets 0x6001 0x700C (first_state p input).world.space))
+      ap (run_returning open_storage (machine_back (code_of library p)) last p.data_start returns (suc n)) (begins laws library p built input ∙ ap (λ code. standing_as (first_state p input) (machine_at code 0 [] [] [])) code_is)
+      ∙ ap (λ code. run_returning open_storage (machine_back code) last p.data_start returns (suc n) (standing_as (first_state p input) (machine_at (code_with 0x700C) 0 [] [] []))) code_is
+      ∙ ap (λ m. run_returning open_storage (machine_back (code_with 0x700C)) last p.data_start returns (suc n) (record start { core = record start.core { memory = m } })) (sym (sets 0x6001 0x700C (first_state p input).world.space))
       ∙ same_runs (code_with 0x700C) patched_code last p.data_start below (sets 0x6001 0x700C) long returns (suc n) start (omega (arith, long, length-append patched_code (first_state p input).world.space))
       ∙ ap mend
       (moves laws only p (code_with 0x700C) patched_code (routine_place library p) size stand last last_is below first_cell return_stands (has 0x700C) (has 0x6001) (sets 0x700C 0x6001) (sets 0x6001 0x700C) returns_at returns_there apart
@@ -319,20 +321,20 @@ module _ (laws : Laws) (only : OnlyGoLeaves) (library : List Nodes) (p : SourceP
       let shows = subst (Shows (code_of library p) (returning_run library p returns input (suc b.count))) e (shows_at k b) in
       let lt = far refl in
       let begins_at = begun (open_start (laid_out library p)) input in
-      let front' = prints_between laws (code_of library p) last p.data_start returns n (suc b.count) (begun (open_start (laid_out library p)) input) (omega (arith, lt)) in (
+      let front' = prints_between laws.grows (code_of library p) last p.data_start returns n (suc b.count) (begun (open_start (laid_out library p)) input) (omega (arith, lt)) in (
         (front'.0, front'.1 ∙ shows.printed),
         λ stop q.
-            let later = ends_between laws (code_of library p) last p.data_start returns n (suc b.count) (begun (open_start (laid_out library p)) input) stop (omega (arith, lt)) q in
+            let later = ends_between laws.grows (code_of library p) last p.data_start returns n (suc b.count) (begun (open_start (laid_out library p)) input) stop (omega (arith, lt)) q in
             absurd (let f : None ≡ Some stop = sym shows.stop_is ∙ ap (λ w. w.stop) later ∙ q in cc),
       )
   no_more_by n k b (Ends end world) e far =
       let shows = subst (Shows (code_of library p) (returning_run library p returns input (suc b.count))) e (shows_at k b) in
       let same : returning_run library p returns input (suc (b.count + n)) ≡ returning_run library p returns input (suc b.count) =
       run_is (b.count + n) ∙ ap mend (b.stays end n (ap end_of e)) ∙ sym (run_is b.count) in
-      let front' = prints_between laws (code_of library p) last p.data_start returns n (suc (b.count + n)) (begun (open_start (laid_out library p)) input) (omega arith) in (
+      let front' = prints_between laws.grows (code_of library p) last p.data_start returns n (suc (b.count + n)) (begun (open_start (laid_out library p)) input) (omega arith) in (
         (front'.0, front'.1 ∙ ap (λ w. w.printed) same ∙ shows.printed),
         λ stop q.
-            let later = ends_between laws (code_of library p) last p.data_start returns n (suc (b.count + n)) (begun (open_start (laid_out library p)) input) stop (omega arith) q in
+            let later = ends_between laws.grows (code_of library p) last p.data_start returns n (suc (b.count + n)) (begun (open_start (laid_out library p)) input) stop (omega arith) q in
             (end, refl, sym shows.stop_is ∙ ap (λ w. w.stop) (sym same ∙ later) ∙ q),
       )
 
@@ -346,8 +348,50 @@ module _ (laws : Laws) (only : OnlyGoLeaves) (library : List Nodes) (p : SourceP
       let parts = no_more_by n (word_steps p n) b (steps_back p (backs_of returns) (word_steps p n) (first_state p input)) refl (λ e. far_from (word_steps p n) b n (omega arith) e) in
       record { prints = parts.0; ends = parts.1 }
 
+  -- ---- the stacks
+
+  abbrev Patched : ℕ → ℕ → ℕ → OpenConfiguration → Type 0
+  Patched high return_high n w = StaysPatched (code_with 0x700C) patched_code last p.data_start below (sets 0x6001 0x700C) long high return_high returns n w
+
+  fits_back : (k high return_high : ℕ) → StacksFitReturning p (backs_of returns) input high return_high k →
+      StepsFitBack laws only p (code_with 0x700C) patched_code (routine_place library p) size stand last last_is below first_cell return_stands (has 0x700C) (has 0x6001) (sets 0x700C 0x6001) (sets 0x6001 0x700C) returns_at returns_there apart
+      returns high return_high k (first_state p input)
+  unfolding run_back
+  fits_back k high return_high fit = fit
+
+  -- from the call of MAIN on
+  main_stays : (n k : ℕ) (b : Main k) (o : Outcome) → steps_back p (backs_of returns) k (first_state p input) ≡ o → (end_of o ≡ None → n < suc b.count) → (high return_high : ℕ) → StacksFitReturning p (backs_of returns) input high return_high k →
+      Patched high return_high n main
+  main_stays n k b (Goes s) e far high return_high fit =
+      let lt = far refl in
+      fewer_stay (code_with 0x700C) patched_code last p.data_start below (sets 0x6001 0x700C) long high return_high returns n b.count main (omega (arith, lt)) (b.stacks high return_high (fits_back k high return_high fit))
+  main_stays n k b (Ends end world) e far high return_high fit =
+      fewer_stay (code_with 0x700C) patched_code last p.data_start below (sets 0x6001 0x700C) long high return_high returns n (b.count + n) main (omega arith)
+      (b.stacks_ended high return_high end n (fits_back k high return_high fit) (ap end_of e))
+
+  all_stay : (n high return_high : ℕ) → Patched high return_high n main → StaysReturning high return_high (code_of library p) last p.data_start returns (suc n) (begun (open_start (laid_out library p)) input)
+  all_stay n high return_high stays =
+      let calls =
+      laws.calls p.data_start (routine_place library p (Definition p.main_body)) (machine_at patched_code 0 [] [] []) [] (first_state p input).world (main_called laws library p built patched_code size starts_with) in
+      let within = narrower laws p.data_start 0 0 0 0 high return_high start (omega arith) (omega arith) calls.bounds.0 in
+      let mended_stay =
+      mended_stays (code_with 0x700C) patched_code last p.data_start below (sets 0x6001 0x700C) long high return_high returns (suc n) start (omega (arith, long, length-append patched_code (first_state p input).world.space))
+      (one_stays (code_with 0x700C) patched_code last p.data_start below (sets 0x6001 0x700C) long high return_high returns n start main start_not called within stays) in
+      let is : begun (open_start (laid_out library p)) input ≡ mend start =
+      begins laws library p built input ∙ ap (λ code. standing_as (first_state p input) (machine_at code 0 [] [] [])) code_is
+      ∙ ap (λ m. record start { core = record start.core { memory = m } }) (sym (sets 0x6001 0x700C (first_state p input).world.space)) in
+      subst (StaysReturning high return_high (code_of library p) last p.data_start returns (suc n)) (sym is)
+      (subst (λ code. StaysReturning high return_high code last p.data_start returns (suc n) (mend start)) (sym code_is) mended_stay)
+
+  pub stacks : (n : ℕ) → IsSafeReturning p (backs_of returns) input (word_steps p n) → StacksReturning library p returns input n
+  stacks n well high return_high fit =
+      let b = main_back (word_steps p n) well in
+      all_stay n high return_high
+      (main_stays n (word_steps p n) b (steps_back p (backs_of returns) (word_steps p n) (first_state p input)) refl (λ e. far_from (word_steps p n) b n (omega arith) e) high return_high fit)
+
 pub images_return : Laws → OnlyGoLeaves → ImagesReturn
 images_return laws only = record {
   forward = λ library p returns input k form means built used space bytes come well. forward laws only library p returns input form means built used space bytes come k well;
   backward = λ library p returns input n form means built used space bytes come well. backward laws only library p returns input form means built used space bytes come n well;
+  stacks = λ library p returns input n form means built used space bytes come well. stacks laws only library p returns input form means built used space bytes come n well;
 }

@@ -7,7 +7,7 @@ use Rattle.std.proofs.lemmas.Bool.Decides.{nat_tests, leb_tells}
 use Rattle.j1_table.specs.Instruction.{decoded}
 use Rattle.j1_simulator.specs.Effect.{effect, following}
 use Rattle.j1_simulator.specs.Step.{Stop}
-use Rattle.j1_simulator.specs.OpenMachine.{rest, open_storage}
+use Rattle.j1_simulator.specs.OpenMachine.{top_cell, rest, open_storage}
 use Rattle.j1_simulator.specs.Run.{run, advanced, after_effect}
 use Rattle.word_table.specs.declared.word.Word.TheVariants.{Go, Execute, ToR}
 use Rattle.forth_program.specs.Tree.{Node, Literal, Plain, Call, Child, Text, If, Until, While, Again, Do, QDo, Case, Leave, Exit}
@@ -23,19 +23,20 @@ use Rattle.forth_program.specs.Cells.{AreCells, IsWorld}
 use Rattle.forth_program.specs.Heights.{DepthFits, StepsFit, peak_of, back_of, execute_back, return_height}
 use Rattle.forth_program.specs.Returns.{Return, IsReturn, world_back, behind_go, state_back, steps_back, spent_back}
 use Rattle.word_laws.specs.Rings.{OpenConfiguration}
+use Rattle.word_laws.specs.Bounds.{StaysWithin}
 use Rattle.word_laws.specs.Control.{HoldsInstruction}
 use Rattle.word_laws.specs.Standing.{return_places, standing_at_depths, standing_as, StandIn, machine_at}
 use Rattle.code_layout.specs.Layout.{Routine, Leaving}
 use Rattle.code_layout.specs.Agreement.{Shows, stop_of_outcome}
-use Rattle.code_layout.specs.Returning.{MachineReturn, backs_of, machine_back, goes_back, is_running, is_leaving}
-use Rattle.code_layout.proofs.Machine.{Laws, Runs, wider, runs_then, runs_one}
+use Rattle.code_layout.specs.Returning.{MachineReturn, backs_of, machine_back, goes_back, is_running, is_leaving, LeftWithin, HoldsBack}
+use Rattle.code_layout.proofs.Machine.{Laws, Runs, narrower, wider, runs_then, runs_one}
 use Rattle.code_layout.proofs.Phrases.{phrase_runs}
 use Rattle.code_layout.proofs.Work.{ahead, unfinished, Returns, CallStands, Stands, Loops, Called, Frames, ends_at_return, back, opens, Meets}
 use Rattle.code_layout.proofs.Steps.{AllStand}
-use Rattle.code_layout.proofs.Runs.{strays, strays_not, steps_on, steps_end, no_steps, StandsAs, StandsWhere, Nearer, Reaches, reaches}
+use Rattle.code_layout.proofs.Runs.{strays, strays_not, steps_on, steps_end, no_steps, StandsAs, StandsWhere, Nearer, Reaches, reaches, height_is}
 use Rattle.code_layout.proofs.GoStep.{led_places}
 use Rattle.code_layout.proofs.PatchedMachine.{set_cell, after_set, Keeps}
-use Rattle.code_layout.proofs.PatchedRun.{returned, run_patched, pass}
+use Rattle.code_layout.proofs.PatchedRun.{returned, run_patched, pass, mended, StaysPatched, nothing_stays, one_less_stays, leaving_stays, stays_then, stopped_within}
 use Rattle.code_layout.proofs.SourceReturns.{plain, LeavesIn, split, behind}
 
 -- some stacks are enough for any number of steps
@@ -118,11 +119,11 @@ module _ (laws : Laws) (only : OnlyGoLeaves) (p : SourceProgram) (code code' : L
   abbrev patched : List MachineReturn → ℕ → OpenConfiguration → OpenConfiguration
   patched returns n w = run_patched code' last p.data_start returns n w
 
-  long : last < length code'
-  long = omega (arith, size, below)
+  pub last_inside : last < length code'
+  last_inside = omega (arith, size, below)
 
   keeps : (q : ℕ) (returns data_above return_above : List (Option ℕ)) (c : List ℕ) (world : World) → Keeps last 0x6001 (standing_at_depths (machine_at code' q returns data_above return_above) c world)
-  keeps q returns data_above return_above c world = record { cell_is = cell' world.space; inside = omega (arith, long, length-append code' world.space) }
+  keeps q returns data_above return_above c world = record { cell_is = cell' world.space; inside = omega (arith, last_inside, length-append code' world.space) }
 
   -- ---- the code of GO
 
@@ -145,12 +146,11 @@ module _ (laws : Laws) (only : OnlyGoLeaves) (p : SourceProgram) (code code' : L
             (standing_at_depths (machine_at code' (a / 2 % 0x2000) returns up (Some a ∷ up')) c world).core { memory = m };
       }) (codes world.space)
 
+  -- in some instructions, with at most ten cells more than are left behind it
   record AtLast (v : OpenConfiguration) (count a : ℕ) (c : List ℕ) (returns : List (Option ℕ)) (world : World) : Type 0 where
-    high : ℕ
-    return_high : ℕ
     up : List (Option ℕ)
     up' : List (Option ℕ)
-    runs : Runs p.data_start high return_high count v (standing_at_depths (machine_at code' last (Some a ∷ returns) up up') c world)
+    runs : Runs p.data_start (length c + 10) (length returns + 10) count v (standing_at_depths (machine_at code' last (Some a ∷ returns) up up') c world)
 
   to_last : (a : ℕ) (c : List ℕ) (returns data_above return_above : List (Option ℕ)) (world : World) → IsWorld world → world.data_start ≡ p.data_start → AreCells (a ∷ c) →
       AtLast (standing_at_depths (machine_at code' (place Leaving) returns data_above return_above) (a ∷ c) world) 1 a c returns world
@@ -158,14 +158,12 @@ module _ (laws : Laws) (only : OnlyGoLeaves) (p : SourceProgram) (code code' : L
       let before : State = record { work = []; entries = []; callers = []; cells = a ∷ c; world = world } in
       let taken : State = record { work = []; entries = Cell a ∷ []; callers = []; cells = c; world = world } in
       let one =
-      phrase_runs p (length c + 9) (length returns + 9) returns laws code' size (ToR ∷ []) before taken (place Leaving) (following (place Leaving)) data_above return_above refl refl
+      phrase_runs p (length c + 10) (length returns + 10) returns laws code' size (ToR ∷ []) before taken (place Leaving) (following (place Leaving)) data_above return_above refl refl
       (omega arith, omega arith, tt) first_cell fc tt fits starts in
       record {
-        high = length c + 9;
-        return_high = length returns + 9;
         up = one.0;
         up' = one.1;
-        runs = subst (λ q. Runs p.data_start (length c + 9) (length returns + 9) 1 (standing_at_depths (machine_at code' (place Leaving) returns data_above return_above) (a ∷ c) world)
+        runs = subst (λ q. Runs p.data_start (length c + 10) (length returns + 10) 1 (standing_at_depths (machine_at code' (place Leaving) returns data_above return_above) (a ∷ c) world)
             (standing_at_depths (machine_at code' q (Some a ∷ returns) one.0 one.1) c world)) (sym last_is) one.2;
       }
 
@@ -174,42 +172,20 @@ module _ (laws : Laws) (only : OnlyGoLeaves) (p : SourceProgram) (code code' : L
       AtLast (standing_at_depths (machine_at code' pc places data_above return_above) (a ∷ c) world) 2 a c (led_places tail pc places) world
   call_to_last true pc a c places data_above return_above K world fits starts fc holds =
       let two = to_last a c places data_above return_above world fits starts fc in
-      let high = two.high + suc (length c) in
-      let return_high = two.return_high + length places in
       let from = standing_at_depths (machine_at code' pc places data_above return_above) (a ∷ c) world in
       let entered = standing_at_depths (machine_at code' (place Leaving) places data_above return_above) (a ∷ c) world in
       let one =
-      runs_one laws p.data_start (suc (length c)) (length places) (two.high + suc (length c)) (two.return_high + length places) from entered (omega arith) (omega arith)
+      runs_one laws p.data_start (suc (length c)) (length places) (length c + 10) (length places + 10) from entered (omega arith) (omega arith)
       (laws.jumps p.data_start (place Leaving) (machine_at code' pc places data_above return_above) (a ∷ c) world holds) in
-      let runs = two.runs in
-      let more : Runs p.data_start (two.high + suc (length c)) (two.return_high + length places) 1 entered (standing_at_depths (machine_at code' last (Some a ∷ places) two.up two.up') c world) =
-      record { makes = runs.makes; bounds = wider laws p.data_start 0 two.high 0 two.return_high (two.high + suc (length c)) (two.return_high + length places) 1 entered (omega arith) (omega arith) runs.bounds } in
-      record {
-        high = two.high + suc (length c);
-        return_high = two.return_high + length places;
-        up = two.up;
-        up' = two.up';
-        runs = runs_then laws p.data_start (two.high + suc (length c))
-            (two.return_high + length places) 1 1 from entered _ one more;
-      }
+      record { up = two.up; up' = two.up'; runs = runs_then laws p.data_start (length c + 10) (length places + 10) 1 1 from entered _ one two.runs }
   call_to_last false pc a c places data_above return_above K world fits starts fc holds =
       let two = to_last a c (Some (2 * following pc) ∷ places) data_above (rest return_above) world fits starts fc in
       let from = standing_at_depths (machine_at code' pc places data_above return_above) (a ∷ c) world in
       let entered = standing_at_depths (machine_at code' (place Leaving) (Some (2 * following pc) ∷ places) data_above (rest return_above)) (a ∷ c) world in
       let one =
-      runs_one laws p.data_start (suc (length c)) (length places) (two.high + suc (length c)) (two.return_high + length places) from entered (omega arith) (omega arith)
+      runs_one laws p.data_start (suc (length c)) (length places) (length c + 10) (length (Some (2 * following pc) ∷ places) + 10) from entered (omega arith) (omega arith)
       (laws.calls p.data_start (place Leaving) (machine_at code' pc places data_above return_above) (a ∷ c) world holds.0) in
-      let runs = two.runs in
-      let more : Runs p.data_start (two.high + suc (length c)) (two.return_high + length places) 1 entered (standing_at_depths (machine_at code' last (Some a ∷ Some (2 * following pc) ∷ places) two.up two.up') c world) =
-      record { makes = runs.makes; bounds = wider laws p.data_start 0 two.high 0 two.return_high (two.high + suc (length c)) (two.return_high + length places) 1 entered (omega arith) (omega arith) runs.bounds } in
-      record {
-        high = two.high + suc (length c);
-        return_high = two.return_high + length places;
-        up = two.up;
-        up' = two.up';
-        runs = runs_then laws p.data_start (two.high + suc (length c))
-            (two.return_high + length places) 1 1 from entered _ one more;
-      }
+      record { up = two.up; up' = two.up'; runs = runs_then laws p.data_start (length c + 10) (length (Some (2 * following pc) ∷ places) + 10) 1 1 from entered _ one two.runs }
 
   -- where a step of GO is next
   record GoHere (pc : ℕ) (s : State) (after : List Work) : Type 0 where
@@ -236,6 +212,15 @@ module _ (laws : Laws) (only : OnlyGoLeaves) (p : SourceProgram) (code code' : L
   abbrev pub DepthsBack : List MachineReturn → ℕ → State → Type 0
   DepthsBack returns k s = (j : ℕ) (t : State) → j < k → steps_back p (backs_of returns) j s ≡ Goes t → DepthFits (first_work t.work) t.cells
 
+  -- each of k word steps takes at most so many cells
+  abbrev pub StepsFitBack : List MachineReturn → ℕ → ℕ → ℕ → State → Type 0
+  StepsFitBack returns high return_high k s =
+      (j : ℕ) (t : State) → j < k → steps_back p (backs_of returns) j s ≡ Goes t →
+      (length t.cells + peak_of t.callers (first_work t.work) ≤ high) × (return_height t + back_of (first_work t.work) ≤ return_high) × (return_height t + execute_back p (first_work t.work) t.cells ≤ return_high)
+
+  abbrev pub Stays : ℕ → ℕ → List MachineReturn → ℕ → OpenConfiguration → Type 0
+  Stays high return_high returns n v = StaysPatched code code' last p.data_start below mends last_inside high return_high returns n v
+
   -- so many instructions do the same as k word steps
   pub record Back (k total now : ℕ) (returns : List MachineReturn) (s : State) (v : OpenConfiguration) : Type 0 where
     pub count : ℕ
@@ -244,6 +229,9 @@ module _ (laws : Laws) (only : OnlyGoLeaves) (p : SourceProgram) (code code' : L
     pub progress : end_of (steps_back p (backs_of returns) k s) ≡ None → k ≤ now + count * (p.source_tokens + 1)
     -- and where they have ended no more are made
     pub stays : (end : End) (n : ℕ) → end_of (steps_back p (backs_of returns) k s) ≡ Some end → patched returns (count + n) v ≡ patched returns count v
+    -- both stacks keep to the limits of the word steps
+    pub stacks : (high return_high : ℕ) → StepsFitBack returns high return_high k s → Stays high return_high returns count v
+    pub stacks_ended : (high return_high : ℕ) (end : End) (n : ℕ) → StepsFitBack returns high return_high k s → end_of (steps_back p (backs_of returns) k s) ≡ Some end → Stays high return_high returns (count + n) v
 
   stopped_stays : (returns : List MachineReturn) (n : ℕ) (w : OpenConfiguration) (stop : Stop) → w.stop ≡ Some stop → patched returns n w ≡ w
   unfolding run_patched
@@ -251,7 +239,7 @@ module _ (laws : Laws) (only : OnlyGoLeaves) (p : SourceProgram) (code code' : L
   stopped_stays returns (suc n) w stop e =
       ap
       (λ st.
-      if is_running st && (w.core.pc == last) then goes_back code' returns (returned last p.data_start w) (λ others v. run_patched code' last p.data_start others n v)
+      if is_running st && (w.core.pc == last) then goes_back (machine_back code') returns (returned last p.data_start w) (λ others v. run_patched code' last p.data_start others n v)
       else run_patched code' last p.data_start returns n (advanced st open_storage p.data_start w)) e
       ∙ stopped_stays returns n w stop e
 
@@ -273,7 +261,7 @@ module _ (laws : Laws) (only : OnlyGoLeaves) (p : SourceProgram) (code code' : L
   moves returns n u v elsewhere leads =
       ap
       (λ x.
-      if x then goes_back code' returns (returned last p.data_start u) (λ others v. run_patched code' last p.data_start others n v)
+      if x then goes_back (machine_back code') returns (returned last p.data_start u) (λ others v. run_patched code' last p.data_start others n v)
       else run_patched code' last p.data_start returns n (advanced u.stop open_storage p.data_start u)) elsewhere
       ∙ ap (run_patched code' last p.data_start returns n) leads
 
@@ -295,8 +283,13 @@ module _ (laws : Laws) (only : OnlyGoLeaves) (p : SourceProgram) (code code' : L
       (λ j t lt e. depths j t lt ((plain p (backs_of returns) total j s (ap leaves e)).0 ∙ e)) in
       let fit = some_fit p k s in
       let goes_on : (n : ℕ) → patched returns (r.count + n) (At pc base data_above return_above s) ≡ patched returns n (run open_storage p.data_start r.count (At pc base data_above return_above s)) = λ n.
-      (pass code code' last p.data_start below mends long returns fit.0 fit.1 r.count n (At pc base data_above return_above s) (r.before fit.0 fit.1 fit.2)
+      (pass code code' last p.data_start below mends last_inside returns fit.0 fit.1 r.count n (At pc base data_above return_above s) (r.before fit.0 fit.1 fit.2)
       (keeps pc (return_places s.entries base) data_above return_above s.cells s.world)).0 in
+      let fits : (high return_high : ℕ) → StepsFitBack returns high return_high k s → StepsFit p high return_high k s = λ high return_high fit j t lt e. fit j t lt ((plain p (backs_of returns) total j s (ap leaves e)).0 ∙ e) in
+      let stay : (high return_high n : ℕ) → StepsFitBack returns high return_high k s → Stays high return_high returns n (run open_storage p.data_start r.count (At pc base data_above return_above s)) →
+      Stays high return_high returns (r.count + n) (At pc base data_above return_above s) = λ high return_high n fit later.
+      stays_then code code' last p.data_start below mends last_inside high return_high returns r.count n (At pc base data_above return_above s) (r.before high return_high (fits high return_high fit))
+      (keeps pc (return_places s.entries base) data_above return_above s.cells s.world) later in
       let at : patched returns r.count (At pc base data_above return_above s) ≡ run open_storage p.data_start r.count (At pc base data_above return_above s) =
       ap (λ n. patched returns n (At pc base data_above return_above s)) (sym (no_more r.count)) ∙ goes_on 0 ∙ none_made returns (run open_storage p.data_start r.count (At pc base data_above return_above s)) in
       let cheap = r.cheap in
@@ -308,6 +301,14 @@ module _ (laws : Laws) (only : OnlyGoLeaves) (p : SourceProgram) (code code' : L
         stays = λ end n e.
             let stop = stop_of_end (steps p k s) end sound (sym (ap end_of same.0) ∙ e) in
             goes_on n ∙ stopped_stays returns n (run open_storage p.data_start r.count (At pc base data_above return_above s)) stop.0 (r.shows.stop_is ∙ stop.1) ∙ sym at;
+        stacks = λ high return_high fit.
+            subst (λ n. Stays high return_high returns n (At pc base data_above return_above s)) (no_more r.count)
+            (stay high return_high 0 fit (nothing_stays code code' last p.data_start below mends last_inside high return_high returns (run open_storage p.data_start r.count (At pc base data_above return_above s))));
+        stacks_ended = λ high return_high end n fit e.
+            let stop = stop_of_end (steps p k s) end sound (sym (ap end_of same.0) ∙ e) in
+            stay high return_high n fit
+            (stopped_within code code' last p.data_start below mends last_inside high return_high returns n (run open_storage p.data_start r.count (At pc base data_above return_above s)) stop.0 (r.shows.stop_is ∙ stop.1)
+            (r.at_end high return_high end (fits high return_high fit) (sym (ap end_of same.0) ∙ e)));
       }
 
   -- ---- behind GO
@@ -360,6 +361,10 @@ module _ (laws : Laws) (only : OnlyGoLeaves) (p : SourceProgram) (code code' : L
             shows = subst (λ w. Shows code' w (steps_back p (backs_of returns) i s)) (sym (none_made returns v)) seen;
             progress = λ q. let far = b.progress q in let none : b.count * (p.source_tokens + 1) ≡ 0 = ap (λ n. n * (p.source_tokens + 1)) e ∙ no_times (p.source_tokens + 1) in omega (arith, far, none);
             stays = λ end n q. ap (λ n. patched returns n v) (nothing n) ∙ still end n q ∙ sym (still end 0 q);
+            stacks = λ high return_high fit. nothing_stays code code' last p.data_start below mends last_inside high return_high returns v;
+            stacks_ended = λ high return_high end n fit q.
+                one_less_stays code code' last p.data_start below mends last_inside high return_high returns (0 + n) u v elsewhere leads
+                (subst (λ c. Stays high return_high returns c u) (let f : b.count + suc n ≡ suc (0 + n) = omega (arith, e) in f) (b.stacks_ended high return_high end (suc n) fit q));
           }
         where
           no_times : (n : ℕ) → 0 * n ≡ 0
@@ -377,6 +382,10 @@ module _ (laws : Laws) (only : OnlyGoLeaves) (p : SourceProgram) (code code' : L
             stays = λ end n q.
                 sym (moves returns (c + n) u v elsewhere leads) ∙ ap (λ n. patched returns n u) (more c n) ∙ ap (λ m. patched returns (m + n) u) (sym e) ∙ b.stays end n q
                 ∙ ap (λ n. patched returns n u) e ∙ moves returns c u v elsewhere leads;
+            stacks = λ high return_high fit. one_less_stays code code' last p.data_start below mends last_inside high return_high returns c u v elsewhere leads (subst (λ n. Stays high return_high returns n u) e (b.stacks high return_high fit));
+            stacks_ended = λ high return_high end n fit q.
+                one_less_stays code code' last p.data_start below mends last_inside high return_high returns (c + n) u v elsewhere leads
+                (subst (λ m. Stays high return_high returns m u) (let f : b.count + n ≡ suc (c + n) = omega (arith, e) in f) (b.stacks_ended high return_high end n fit q));
           }
         where
           one_more : (c n : ℕ) → suc c * n ≡ (1 + c) * n
@@ -471,7 +480,7 @@ module _ (laws : Laws) (only : OnlyGoLeaves) (p : SourceProgram) (code code' : L
         let far = b.progress in
         let cheap = b.cheap in
         subst (Back i total (ahead g.after + unfinished t.callers + (p.source_tokens + 1)) returns (record { work = g.after; entries = t.entries; callers = t.callers; cells = g.cells; world = world_back r.back t.world })) (sym is_there)
-        (record { count = b.count; cheap = cheap; shows = b.shows; progress = λ q. let f = far q in omega (arith, f); stays = b.stays })
+        (record { count = b.count; cheap = cheap; shows = b.shows; progress = λ q. let f = far q in omega (arith, f); stays = b.stays; stacks = b.stacks; stacks_ended = b.stacks_ended })
       where
         same_place : (pc : ℕ) → 2 * following pc / 2 % 0x2000 ≡ following pc
         same_place pc = omega arith
@@ -482,15 +491,51 @@ module _ (laws : Laws) (only : OnlyGoLeaves) (p : SourceProgram) (code code' : L
   -- at the end of the code of GO
   at_last : (returns : List MachineReturn) (j a : ℕ) (c : List ℕ) (places up up' : List (Option ℕ)) (world : World) →
       patched returns (suc j) (standing_at_depths (machine_at code' last (Some a ∷ places) up up') c world)
-      ≡ goes_back code' returns (standing_at_depths (machine_at code' (a / 2 % 0x2000) places up (Some a ∷ up')) c world) (λ others u. run_patched code' last p.data_start others j u)
+      ≡ goes_back (machine_back code') returns (standing_at_depths (machine_at code' (a / 2 % 0x2000) places up (Some a ∷ up')) c world) (λ others u. run_patched code' last p.data_start others j u)
   unfolding run_patched
   at_last returns j a c places up up' world =
       let w = standing_at_depths (machine_at code' last (Some a ∷ places) up up') c world in
       ap
       (λ x.
-      if x then goes_back code' returns (returned last p.data_start (standing_at_depths (machine_at code' last (Some a ∷ places) up up') c world)) (λ others v. run_patched code' last p.data_start others j v)
+      if x then goes_back (machine_back code') returns (returned last p.data_start (standing_at_depths (machine_at code' last (Some a ∷ places) up up') c world)) (λ others v. run_patched code' last p.data_start others j v)
       else run_patched code' last p.data_start returns j (advanced None open_storage p.data_start (standing_at_depths (machine_at code' last (Some a ∷ places) up up') c world))) (same_number last)
-      ∙ ap (λ v. goes_back code' returns v (λ others u. run_patched code' last p.data_start others j u)) (goes_there a c places up up' world)
+      ∙ ap (λ v. goes_back (machine_back code') returns v (λ others u. run_patched code' last p.data_start others j u)) (goes_there a c places up up' world)
+
+  led_length : (tail : Bool) (pc : ℕ) (places : List (Option ℕ)) → length (led_places tail pc places) ≤ length places + 1
+  led_length true pc places = omega arith
+  led_length false pc places = omega arith
+
+  led_known : (tail : Bool) (pc : ℕ) (places : List (Option ℕ)) → ((x : ℕ) × (below : List (Option ℕ)) × (places ≡ Some x ∷ below)) → (x : ℕ) × (below : List (Option ℕ)) × (led_places tail pc places ≡ Some x ∷ below)
+  led_known true pc places h = h
+  led_known false pc places h = (2 * following pc, places, refl)
+
+  last_stays : (returns : List MachineReturn) (j high return_high a : ℕ) (c : List ℕ) (places up up' : List (Option ℕ)) (world : World) → length c ≤ high → suc (length places) ≤ return_high →
+      ((x : ℕ) × (below : List (Option ℕ)) × (places ≡ Some x ∷ below)) →
+      HoldsBack code' returns (standing_at_depths (machine_at code' (a / 2 % 0x2000) places up (Some a ∷ up')) c world) (λ others v. Stays high return_high others j v) →
+      Stays high return_high returns (suc j) (standing_at_depths (machine_at code' last (Some a ∷ places) up up') c world)
+  last_stays returns j high return_high a c places up up' world few few_returns known later =
+      let w = standing_at_depths (machine_at code' last (Some a ∷ places) up up') c world in
+      let led = standing_at_depths (machine_at code' (a / 2 % 0x2000) places up (Some a ∷ up')) c world in
+      let leads = laws.returns p.data_start a (machine_at code last places up up') c world return_cell in
+      let bounds = leads.bounds.0 in
+      let mended_is : mended code code' last p.data_start below mends last_inside w ≡ standing_at_depths (machine_at code last (Some a ∷ places) up up') c world =
+      ap (λ m. record (standing_at_depths (machine_at code last (Some a ∷ places) up up') c world) { core = record (standing_at_depths (machine_at code last (Some a ∷ places) up up') c world).core { memory = m } }) (mends world.space) in
+      let left : LeftWithin high return_high led = record {
+        depth = length c;
+        return_depth = length places;
+        address = known.0;
+        depth_is = refl;
+        return_depth_is = refl;
+        at_most = few;
+        return_at_most = omega (arith, few_returns);
+        known = bounds.known;
+        return_known = bounds.return_known;
+        address_is = ap top_cell known.2;
+      } in
+      leaving_stays code code' last p.data_start below mends last_inside high return_high returns j w (same_number last)
+      (subst (StaysWithin 0 high 0 return_high) (sym mended_is) (narrower laws p.data_start (length c) (length c) (suc (length places)) (suc (length places)) high return_high _ few few_returns bounds))
+      (subst (LeftWithin high return_high) (sym (goes_there a c places up up' world)) left)
+      (subst (λ v. HoldsBack code' returns v (λ others u. Stays high return_high others j u)) (sym (goes_there a c places up up' world)) later)
 
   -- a run that GO leads out
   module _ (k total pc : ℕ) (out : Option ℕ) (s : State) (base data_above return_above : List (Option ℕ)) (m : Meets code' place p out pc s base) (l : LeavesIn p k s) where
@@ -540,18 +585,50 @@ module _ (laws : Laws) (only : OnlyGoLeaves) (p : SourceProgram) (code code' : L
       abbrev led : Arrives → OpenConfiguration
       led two = standing_at_depths (machine_at code' (l.address / 2 % 0x2000) places two.up (Some l.address ∷ two.up')) go_step.cells l.last.world
 
-      led_out : (two : Arrives) (returns : List MachineReturn) (j : ℕ) → patched returns (r.count + (2 + suc j)) from ≡ goes_back code' returns (led two) (λ others u. run_patched code' last p.data_start others j u)
+      led_out : (two : Arrives) (returns : List MachineReturn) (j : ℕ) → patched returns (r.count + (2 + suc j)) from ≡ goes_back (machine_back code') returns (led two) (λ others u. run_patched code' last p.data_start others j u)
       led_out two returns j =
           let fit = some_fit p l.j s in
           let there = standing_at_depths (machine_at code' at.to (return_places l.last.entries at.base) at.data_above at.return_above) (l.address ∷ go_step.cells) l.last.world in
           let same : run open_storage p.data_start r.count from ≡ standing_at_depths (machine_at code' at.to (return_places l.last.entries at.base) at.data_above at.return_above) (l.address ∷ go_step.cells) l.last.world =
           at.is ∙ ap (λ cs. standing_at_depths (machine_at code' at.to (return_places l.last.entries at.base) at.data_above at.return_above) cs l.last.world) go_step.address_is in
-          (pass code code' last p.data_start below mends long returns fit.0 fit.1 r.count (2 + suc j) from (r.before fit.0 fit.1 fit.2) (keeps pc (return_places s.entries base) data_above return_above s.cells s.world)).0
+          (pass code code' last p.data_start below mends last_inside returns fit.0 fit.1 r.count (2 + suc j) from (r.before fit.0 fit.1 fit.2) (keeps pc (return_places s.entries base) data_above return_above s.cells s.world)).0
           ∙ ap (patched returns (2 + suc j)) same
-          ∙ (pass code code' last p.data_start below mends long returns two.high two.return_high 2 (suc j) there two.runs.bounds
+          ∙ (pass code code' last p.data_start below mends last_inside returns (length go_step.cells + 10) (length places + 10) 2 (suc j) there two.runs.bounds
           (keeps at.to (return_places l.last.entries at.base) at.data_above at.return_above (l.address ∷ go_step.cells) l.last.world)).0
           ∙ ap (patched returns (suc j)) two.runs.makes
           ∙ at_last returns j l.address go_step.cells places two.up two.up' l.last.world
+
+      -- with the stacks of the word steps
+      steps_fit : (returns : List MachineReturn) (high return_high : ℕ) → StepsFitBack returns high return_high k s → StepsFit p high return_high l.j s
+      steps_fit returns high return_high fit j t lt e = fit j t (let parts = l.parts in omega (arith, parts, lt)) ((plain p (backs_of returns) total j s (ap leaves e)).0 ∙ e)
+
+      go_fits : (returns : List MachineReturn) (high return_high : ℕ) → StepsFitBack returns high return_high k s → (length go_step.cells + 10 ≤ high) × (length places + 10 ≤ return_high)
+      go_fits returns high return_high fit =
+          let f = fit l.j l.last (let parts = l.parts in omega (arith, parts)) ((plain p (backs_of returns) total l.j s (ap leaves l.goes)).0 ∙ l.goes) in
+          let room : length l.last.cells + 24 ≤ high = subst (λ x. length l.last.cells + peak_of l.last.callers x ≤ high) go_step.first f.0 in
+          let back : return_height l.last + 18 ≤ return_high = subst (λ x. return_height l.last + back_of x ≤ return_high) go_step.first f.1 in
+          let deep = height_is laws p code' place size all at.out at.to l.last at.base at.meets in
+          (omega (arith, room, ap length go_step.address_is), omega (arith, back, deep, led_length (ends_body go_step.after) at.to (return_places l.last.entries at.base)))
+
+      led_stays : (two : Arrives) (returns : List MachineReturn) (j high return_high : ℕ) → StepsFitBack returns high return_high k s →
+          HoldsBack code' returns (led two) (λ others v. Stays high return_high others j v) → Stays high return_high returns (r.count + (2 + suc j)) from
+      led_stays two returns j high return_high fit later =
+          let there = standing_at_depths (machine_at code' at.to (return_places l.last.entries at.base) at.data_above at.return_above) (l.address ∷ go_step.cells) l.last.world in
+          let same : run open_storage p.data_start r.count from ≡ standing_at_depths (machine_at code' at.to (return_places l.last.entries at.base) at.data_above at.return_above) (l.address ∷ go_step.cells) l.last.world =
+          at.is ∙ ap (λ cs. standing_at_depths (machine_at code' at.to (return_places l.last.entries at.base) at.data_above at.return_above) cs l.last.world) go_step.address_is in
+          let room = go_fits returns high return_high fit in
+          let runs = two.runs in
+          stays_then code code' last p.data_start below mends last_inside high return_high returns r.count (2 + suc j) from (r.before high return_high (steps_fit returns high return_high fit))
+          (keeps pc (return_places s.entries base) data_above return_above s.cells s.world)
+          (subst (Stays high return_high returns (2 + suc j)) (sym same)
+          (stays_then code code' last p.data_start below mends last_inside high return_high returns 2 (suc j) there
+          (wider laws p.data_start 0 (length go_step.cells + 10) 0 (length places + 10) high return_high 2 there room.0 room.1 runs.bounds)
+          (keeps at.to (return_places l.last.entries at.base) at.data_above at.return_above (l.address ∷ go_step.cells) l.last.world)
+          (subst (Stays high return_high returns (suc j)) (sym runs.makes)
+          (last_stays returns j high return_high l.address go_step.cells places two.up two.up' l.last.world (omega (arith, room.0)) (omega (arith, room.1)) known_place later))))
+        where
+          known_place : (x : ℕ) × (below : List (Option ℕ)) × (places ≡ Some x ∷ below)
+          known_place = led_known (ends_body go_step.after) at.to (return_places l.last.entries at.base) (known_top l.last.entries at.base (known_base code' place p l.last.callers at.base at.meets.frames))
 
       -- and stays there
       none_back : Arrives → Back k total (ahead s.work + unfinished s.callers) [] s from
@@ -572,6 +649,8 @@ module _ (laws : Laws) (only : OnlyGoLeaves) (p : SourceProgram) (code code' : L
             shows = subst (Shows code' (patched [] (r.count + (2 + 1)) from)) (sym is) (subst (λ u. Shows code' u (Ends (Left l.address) l.world)) (sym (led_out two [] 0)) shows);
             progress = λ e. let f : Some (Left l.address) ≡ None = sym (ap end_of is) ∙ e in cc;
             stays = λ end n e. ap (λ i. patched [] i from) (joined r.count n) ∙ led_out two [] n ∙ sym (led_out two [] 0);
+            stacks = λ high return_high fit. led_stays two [] 0 high return_high fit tt;
+            stacks_ended = λ high return_high end n fit e. subst (λ i. Stays high return_high [] i from) (sym (joined r.count n)) (led_stays two [] n high return_high fit tt);
           }
         where
           joined : (c n : ℕ) → c + (2 + 1) + n ≡ c + (2 + suc n)
@@ -597,6 +676,10 @@ module _ (laws : Laws) (only : OnlyGoLeaves) (p : SourceProgram) (code code' : L
           depths (l.j + suc j) t (let parts = l.parts in omega (arith, parts, lt))
           ((behind p (backs_of (x ∷ returns)) total l.j j s l.last l.address l.world l.goes l.ends).0 ∙ ap (steps_back p (backs_of returns) j) then_is' ∙ e)) in
           let goes : (n : ℕ) → patched (x ∷ returns) (r.count + (2 + suc n)) from ≡ patched returns n (machine_back code' x (led two)) = λ n. led_out two (x ∷ returns) n in
+          let fits : (high return_high : ℕ) → StepsFitBack (x ∷ returns) high return_high k s →
+          StepsFitBack returns high return_high l.i (record { work = go_step.after; entries = l.last.entries; callers = l.last.callers; cells = go_step.cells; world = world_back x.back l.last.world }) = λ high return_high fit j t lt e.
+          fit (l.j + suc j) t (let parts = l.parts in omega (arith, parts, lt))
+          ((behind p (backs_of (x ∷ returns)) total l.j j s l.last l.address l.world l.goes l.ends).0 ∙ ap (steps_back p (backs_of returns) j) then_is' ∙ e) in
           let paid = r.paid (ap end_of l.goes) in
           let cheap = b.cheap in
           record {
@@ -612,6 +695,10 @@ module _ (laws : Laws) (only : OnlyGoLeaves) (p : SourceProgram) (code code' : L
                 let parts = l.parts in
                 omega (arith, far, close, fewer, parts, add-mul r.count (2 + suc b.count) (p.source_tokens + 1), three_more b.count (p.source_tokens + 1));
             stays = λ end n e. ap (λ i. patched (x ∷ returns) i from) (joined r.count b.count n) ∙ goes (b.count + n) ∙ b.stays end n (sym (ap end_of steps_are) ∙ e) ∙ sym (goes b.count);
+            stacks = λ high return_high fit. led_stays two (x ∷ returns) b.count high return_high fit (b.stacks high return_high (fits high return_high fit));
+            stacks_ended = λ high return_high end n fit e.
+                subst (λ i. Stays high return_high (x ∷ returns) i from) (sym (joined r.count b.count n))
+                (led_stays two (x ∷ returns) (b.count + n) high return_high fit (b.stacks_ended high return_high end n (fits high return_high fit) (sym (ap end_of steps_are) ∙ e)));
           }
         where
           joined : (c d n : ℕ) → c + (2 + suc d) + n ≡ c + (2 + suc (d + n))

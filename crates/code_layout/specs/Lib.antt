@@ -9,3 +9,4 @@ pub mod Places
 pub mod Weights
 pub mod Leaving
 pub mod Returning
+pub mod ReturningChip

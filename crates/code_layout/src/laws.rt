@@ -3,6 +3,7 @@ ghost use Rattle.code_layout.specs.Agreement.{ImagesAgree};
 ghost use Rattle.code_layout.specs.Chip.{ChipsAgree};
 ghost use Rattle.code_layout.specs.Leaving.{ImagesAreLedOut};
 ghost use Rattle.code_layout.specs.Returning.{ImagesReturn};
+ghost use Rattle.code_layout.specs.ReturningChip.{ChipsReturn};
 ghost use Rattle.code_layout.specs.LastCalls.{LastCallsAreJumps};
 ghost use Rattle.code_layout.specs.Weights.{CodeIsLight, ItemsAreLight, TokensAreLight};
 
@@ -10,7 +11,7 @@ use forth_program::only_go_leaves;
 use j1_simulator::runs_only_grow;
 use word_laws::{
     cells_stand, control_leads, halt_ends, needs_are_exact, numbers_do_their_meaning,
-    rings_do_the_same, runs_join, words_change_depths, words_do_their_meaning,
+    rings_do_the_same, rings_keep_places, runs_join, words_change_depths, words_do_their_meaning,
     words_keep_their_bounds, words_leave_cells,
 };
 
@@ -53,7 +54,8 @@ pub fn images_are_led_out()
 }
 
 /// Where the code that `GO` calls comes back, with other data space, input and prints, the image goes on as the source does, both
-/// ways and within stated steps, for every list of returns.
+/// ways and within stated steps, for every list of returns. At each instruction both stacks have no more cells than the word steps
+/// take.
 pub fn images_return()
     ensures { ImagesReturn }
 {
@@ -78,6 +80,18 @@ pub fn chips_agree()
 {
     images_agree();
     rings_do_the_same();
+    runs_join();
+    runs_only_grow();
+}
+
+/// So it does on the chip too, where what `GO` calls keeps the places of the live cells: the rings do what the stacks without end
+/// do, and wrap nothing.
+pub fn chips_return()
+    ensures { ChipsReturn }
+{
+    images_return();
+    rings_do_the_same();
+    rings_keep_places();
     runs_join();
     runs_only_grow();
 }

@@ -4,7 +4,7 @@
 //! `Layout` in `specs/` gives the image, and `lay_out` makes it: the sizes of items give where each routine begins, and then the
 //! cells of each item are added at the end of the code. `Built` says which programs have an image, `Numbering` and `Library` what
 //! a library is and what its bodies have to mean, `Agreement` what the open machine and the source have to do with each other, and
-//! `Chip` what follows on the chip. The laws are functions that only call the laws that they stand on.
+//! `Chip` what follows on the chip; `Leaving`, `Returning` and `ReturningChip` say the same of images with `GO`. The laws are functions that only call the laws that they stand on.
 #![tactic(auto)]
 
 mod calls;
@@ -21,7 +21,7 @@ mod words;
 
 pub use cells::tail_jump;
 pub use laws::{
-    chips_agree, code_is_light, images_agree, images_are_led_out, images_return, items_are_light,
-    last_calls_are_jumps,
+    chips_agree, chips_return, code_is_light, images_agree, images_are_led_out, images_return,
+    items_are_light, last_calls_are_jumps,
 };
 pub use layout::lay_out;

@@ -22,6 +22,7 @@ use Rattle.control_flow.specs.ParseResult.{ParseResult, Fine, Refused, Endless}
 use Rattle.control_flow.specs.SourceText.{source_at, program_in}
 use Rattle.depth_certifier.specs.Certificate.{IsValid}
 use Rattle.depth_certifier.specs.Checking.{is_valid, ChecksAreExact}
+use Rattle.depth_certifier.specs.Soundness.{most_cells, most_return_cells}
 use Rattle.depth_certifier.specs.Rounds.{ProperToken}
 use Rattle.kernel_words.specs.Bodies.{IsKernel}
 use Rattle.target_forth.specs.declared.text.TheConstants.{KERNEL_TEXT}
@@ -41,7 +42,9 @@ passes p =
     && (nat_eq p.data_start 8192
     && (nat_le (length (laid_out whole_library p).cells) (p.data_start / 2)
     && (nat_le (all_tokens p.bodies) p.source_tokens
-    && is_valid p kernel_certificate))))))
+    && (nat_eq (most_cells p kernel_certificate) 25
+    && (nat_eq (most_return_cells p kernel_certificate) 22
+    && is_valid p kernel_certificate))))))))
 
 -- there is a program, and it passes
 abbrev pub read_passes : ParseResult SourceProgram → Bool
@@ -71,7 +74,13 @@ eighth : IsDataStart 8192
 eighth = record { is_even = refl; at_least = omega arith; at_most = omega arith }
 
 -- it is built, and the check of its certificate is true
-parts : (p : SourceProgram) → passes p ≡ true → IsBuilt whole_library p × (is_valid p kernel_certificate ≡ true)
+record Passes (p : SourceProgram) : Type 0 where
+  built : IsBuilt whole_library p
+  data_cells : most_cells p kernel_certificate ≡ 25
+  return_cells : most_return_cells p kernel_certificate ≡ 22
+  valid : is_valid p kernel_certificate ≡ true
+
+parts : (p : SourceProgram) → passes p ≡ true → Passes p
 parts p e =
     let a = and_parts _ _ e in
     let b = and_parts _ _ a.1 in
@@ -79,8 +88,11 @@ parts p e =
     let d = and_parts _ _ c.1 in
     let f = and_parts _ _ d.1 in
     let g = and_parts _ _ f.1 in
-    let h = and_parts _ _ g.1 in (
-      record {
+    let h = and_parts _ _ g.1 in
+    let i = and_parts _ _ h.1 in
+    let j = and_parts _ _ i.1 in
+    record {
+      built = record {
         has_main = lt_of _ _ a.0;
         items = b.0;
         token_items = c.0;
@@ -88,9 +100,11 @@ parts p e =
         data_start = subst IsDataStart (sym (eq_of _ _ f.0)) eighth;
         code_fits = le_of _ _ g.0;
         tokens_counted = le_of _ _ h.0;
-      },
-      h.1,
-    )
+      };
+      data_cells = eq_of _ _ i.0;
+      return_cells = eq_of _ _ j.0;
+      valid = j.1;
+    }
 
 proper_token : (count : ℕ) (node : Node) → token_is_laid_out 42 count node ≡ true → ProperToken node
 proper_token count (Literal value) e = tt
@@ -106,10 +120,16 @@ proper_tokens count (node ∷ nodes) e =
     All-cons ProperToken node nodes (proper_token count node both.0) (proper_tokens count nodes both.1)
 
 pub kernel_is_built : IsBuilt whole_library kernel_program
-kernel_is_built = (parts kernel_program kernel_passes).0
+kernel_is_built = (parts kernel_program kernel_passes).built
+
+pub data_cells_are : most_cells kernel_program kernel_certificate ≡ 25
+data_cells_are = (parts kernel_program kernel_passes).data_cells
+
+pub return_cells_are : most_return_cells kernel_program kernel_certificate ≡ 22
+return_cells_are = (parts kernel_program kernel_passes).return_cells
 
 pub kernel_is_certified : ChecksAreExact → IsValid kernel_program kernel_certificate
-kernel_is_certified exact = (exact kernel_program kernel_certificate (proper_tokens _ kernel_program.tokens kernel_is_built.token_items)).0 (parts kernel_program kernel_passes).1
+kernel_is_certified exact = (exact kernel_program kernel_certificate (proper_tokens _ kernel_program.tokens kernel_is_built.token_items)).0 (parts kernel_program kernel_passes).valid
 
 -- ---- the definitions
 

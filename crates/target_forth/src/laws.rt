@@ -7,13 +7,13 @@ ghost use Rattle.control_flow.specs.ParseResult.{Fine};
 ghost use Rattle.control_flow.specs.SourceText.{program_in};
 ghost use Rattle.depth_certifier.specs.Certificate.{IsValid};
 ghost use Rattle.kernel_words.specs.Bodies.{IsKernel};
-ghost use Rattle.target_forth.specs.Behind.{KernelAgrees};
+ghost use Rattle.target_forth.specs.Behind.{KernelAgrees, KernelAgreesOnChip, KernelKeepsTight};
 ghost use Rattle.target_forth.specs.Certificate.{kernel_certificate};
 ghost use Rattle.target_forth.specs.Kernel.{kernel_program};
 ghost use Rattle.target_forth.specs.Replies.{Replies};
 
 use crate::text::KERNEL_TEXT;
-use chip_laws::certified_images_return;
+use chip_laws::{certified_chips_return, certified_images_return};
 use control_flow::programs_are_sources;
 use depth_certifier::checks_are_exact;
 use forth_library::library_means;
@@ -34,15 +34,19 @@ pub fn kernel_is_certified()
     checks_are_exact();
 }
 
-/// On the open machine the kernel's image does what its text says, both ways and within stated steps, on every input, up to each `GO` and behind
-/// each that comes back, whatever the code that it called has made of data space and of the input.
+/// The kernel's image does what its text says, both ways and within stated steps, on every input, up to each `GO` and behind each that comes
+/// back, whatever the code that it called has made of data space and of the input: on the open machine, and on the chip where that code keeps
+/// the places of the kernel's live cells. There the kernel has at most 25 data cells and 22 return cells, and no stack wraps.
 pub fn kernel_agrees()
-    ensures { KernelAgrees }
+    ensures open { KernelAgrees }
+    ensures chip { KernelAgreesOnChip }
+    ensures tight { KernelKeepsTight }
 {
     kernel_is_certified();
     library_means();
     programs_are_sources();
     certified_images_return();
+    certified_chips_return();
 }
 
 /// In a small data space that has the kernel's texts, the definition REPLY prints ` ok` where no word failed, and keeps the user cells. Behind an

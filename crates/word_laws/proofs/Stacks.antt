@@ -1,13 +1,13 @@
 -- A tape and a ring, moved and written alike.
-use Rattle.std.proofs.Common.{◌≡◌, ℕ, zero, suc, ◌+◌, ◌-◌, ◌%◌, ◌<◌, ◌≤◌, ◌⊎◌, inl, inr, ⊎_elim, cond, List, [], ◌∷◌, get_or, Option, None, ℤ, pos, negsuc, ◌+ℤ◌, refl, sym, ap, ◌∙◌, subst, arith, length-set}
+use Rattle.std.proofs.Common.{◌≡◌, ℕ, zero, suc, ◌+◌, ◌-◌, ◌%◌, ◌<◌, ◌≤◌, ◌==◌, Bool, true, false, ◌⊎◌, inl, inr, ⊎_elim, cond, List, [], ◌∷◌, length, get_or, Option, None, ℤ, pos, negsuc, ◌+ℤ◌, refl, sym, ap, ◌∙◌, subst, arith, length-set}
 use Rattle.std.specs.Prelude.{slice_index, slice_set}
 use Rattle.std.proofs.Math.IntN.{sub_ℕ}
 use Rattle.std.proofs.lemmas.Bool.{cases_lt}
-use Rattle.std.proofs.lemmas.Bool.Decides.{leb_tells}
+use Rattle.std.proofs.lemmas.Bool.Decides.{leb_tells, nat_tests}
 use Rattle.std.proofs.lemmas.List.{get_or-set_same, get_or-set_other}
 use Rattle.j1_simulator.specs.OpenMachine.{Tape, top_cell, rest, tape_moved, tape_put}
 use Rattle.j1_simulator.specs.RoundMachine.{RingCells, around, ring_moved, ring_put}
-use Rattle.word_laws.specs.Rings.{KnownWithin, CellAgrees, StackAgrees, place_below}
+use Rattle.word_laws.specs.Rings.{KnownWithin, CellAgrees, StackAgrees, place_below, kept_below}
 
 -- a difference of numbers modulo 32
 around_sub : (a b : ℕ) → ((a < b) × (around (sub_ℕ a b) ≡ 31 - (b - suc a) % 32)) ⊎ ((b ≤ a) × (around (sub_ℕ a b) ≡ (a - b) % 32))
@@ -129,3 +129,42 @@ up_agrees tape ring c x k s =
         is_or_none _ _ _ _ refl
         (ap (slice_index ring.cells) (omega (arith, a, s.low, lt)) ∙ sym (get_or-set_other ring.cells (around (pos ring.at +ℤ pos 1)) ((around (pos ring.at +ℤ pos 1) + 32 - suc j) % 32) x 0 (λ e. omega (arith, a, s.low, e, lt))))
         (s.cells j (omega arith))
+
+-- ---- other cells in the places that are not kept
+
+kept_size : (kept : ℕ) (ring : RingCells) (others : List ℕ) → length (kept_below kept ring others) ≡ length others
+kept_size zero ring others = refl
+kept_size (suc k) ring others = length-set (kept_below k ring others) (place_below k ring) (slice_index ring.cells (place_below k ring)) ∙ kept_size k ring others
+
+is_kept : (kept : ℕ) (ring : RingCells) (others : List ℕ) (j : ℕ) → length others ≡ 32 → j < kept → slice_index (kept_below kept ring others) (place_below j ring) ≡ slice_index ring.cells (place_below j ring)
+is_kept zero ring others j size lt = absurd (omega arith)
+is_kept (suc k) ring others j size lt = by (place_below k ring == place_below j ring) refl (λ less. is_kept k ring others j size less)
+  where
+    before : List ℕ
+    before = kept_below k ring others
+
+    value : ℕ
+    value = slice_index ring.cells (place_below k ring)
+
+    by : (b : Bool) → (place_below k ring == place_below j ring) ≡ b → (j < k → slice_index before (place_below j ring) ≡ slice_index ring.cells (place_below j ring)) →
+        slice_index (slice_set before (place_below k ring) value) (place_below j ring) ≡ slice_index ring.cells (place_below j ring)
+    by true e later =
+        let same : place_below k ring ≡ place_below j ring = grind (arith, nat_tests) in
+        let inside : place_below k ring < length before = omega (arith, size, kept_size k ring others) in
+        ap (slice_index (slice_set before (place_below k ring) value)) (sym same) ∙ get_or-set_same before (place_below k ring) value 0 inside ∙ ap (slice_index ring.cells) same
+    by false e later =
+        let other : place_below k ring ≡ place_below j ring → ⊥ = λ same. let f : (place_below k ring == place_below j ring) ≡ true = grind (arith, nat_tests) in let g : true ≡ false = sym f ∙ e in cc in
+        let less : j < k = ⊎_elim (λ small. small) (λ large. absurd (other (ap (λ i. place_below i ring) (let is : k ≡ j = omega (arith, lt, large) in is)))) (cases_lt j k) in
+        get_or-set_other before (place_below k ring) (place_below j ring) value 0 (λ same. other (sym same)) ∙ later less
+
+pub others_agree : (kept : ℕ) (tape : Tape) (ring : RingCells) (above : List (Option ℕ)) (others : List ℕ) → length others ≡ 32 → KnownWithin kept tape.below → StackAgrees tape ring →
+    StackAgrees (record tape { above = above }) (record ring { cells = kept_below kept ring others })
+others_agree kept tape ring above others size within s = record {
+  at = s.at;
+  size = kept_size kept ring others ∙ size;
+  low = s.low;
+  cells = λ j lt. ⊎_elim
+      (λ small. is_or_none _ _ _ _ refl (sym (is_kept kept ring others j size small)) (s.cells j lt))
+      (λ large. subst (λ x. CellAgrees x (slice_index (kept_below kept ring others) (place_below j ring))) (sym (none_at kept tape.below j within large)) tt)
+      (cases_lt j kept);
+}

@@ -1,11 +1,11 @@
 -- When the round machine does what the open machine does: where no place of a ring is used twice.
-use Rattle.std.specs.Prelude.{ℕ, zero, suc, ◌+◌, ◌-◌, ◌%◌, ◌<◌, ◌≤◌, ◌≡◌, ◌≢◌, Bool, true, false, List, [], ◌∷◌, length, get_or, slice_index, ℤ, pos, negsuc, Option, Some, None}
+use Rattle.std.specs.Prelude.{ℕ, zero, suc, ◌+◌, ◌-◌, ◌%◌, ◌<◌, ◌≤◌, ◌≡◌, ◌≢◌, Bool, true, false, List, [], ◌∷◌, length, get_or, slice_index, slice_set, ℤ, pos, negsuc, Option, Some, None}
 use Rattle.j1_table.specs.Image.{Content}
 use Rattle.j1_simulator.specs.declared.effects.ReturnWrite.{ReturnWrite}
 use Rattle.j1_simulator.specs.declared.effects.ReturnWrite.TheVariants.{Nothing, OldTop, ReturnTo}
 use Rattle.j1_simulator.specs.Step.{Core, Missing, effect_at}
-use Rattle.j1_simulator.specs.OpenMachine.{Tape, open_storage}
-use Rattle.j1_simulator.specs.RoundMachine.{RingCells, round_storage, around}
+use Rattle.j1_simulator.specs.OpenMachine.{Tape, tape_moved, open_storage}
+use Rattle.j1_simulator.specs.RoundMachine.{RingCells, ring_moved, round_storage, around}
 use Rattle.j1_simulator.specs.Run.{Configuration, advanced, begun, open_start, open_run, round_run}
 
 abbrev pub OpenConfiguration : Type 0
@@ -90,6 +90,22 @@ abbrev pub RunsDoTheSame : Type 0
 RunsDoTheSame =
     (image : Content) (input : List ℕ) (n : ℕ) → BeforeEach FitsRings image.data_start n (begun (open_start image) input) →
     (open_run image input n).stop ≢ Some Missing → Agrees (open_run image input n) (round_run image input n)
+
+-- a pointer goes down by one, on the ring as on the stack without end
+abbrev pub PointersGoDown : Type 0
+PointersGoDown =
+    (tape : Tape) (ring : RingCells) → StackAgrees tape ring → KnownWithin 32 tape.below → StackAgrees (tape_moved (negsuc 0) tape) (ring_moved (negsuc 0) ring)
+
+-- other cells of a ring, where so many places at the pointer and below it are kept
+abbrev pub kept_below : ℕ → RingCells → List ℕ → List ℕ
+kept_below zero ring others = others
+kept_below (suc j) ring others = slice_set (kept_below j ring others) (place_below j ring) (slice_index ring.cells (place_below j ring))
+
+-- where all that is known stands in the places that are kept, the cells of the others may be any
+abbrev pub PlacesAreKept : Type 0
+PlacesAreKept =
+    (kept : ℕ) (tape : Tape) (ring : RingCells) (above : List (Option ℕ)) (others : List ℕ) → length others ≡ 32 → KnownWithin kept tape.below → StackAgrees tape ring →
+    StackAgrees (record tape { above = above }) (record ring { cells = kept_below kept ring others })
 
 -- both counters stand within the places of their stacks, T among those of data
 pub record CountersFit (w : OpenConfiguration) : Type 0 where

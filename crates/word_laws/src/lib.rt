@@ -14,7 +14,7 @@ mod words;
 pub use control::{control_leads, halt_ends};
 pub use joins::{cells_stand, runs_join};
 pub use numbers::numbers_do_their_meaning;
-pub use rings::{counters_mislead, rings_do_the_same};
+pub use rings::{counters_mislead, rings_do_the_same, rings_keep_places};
 pub use words::{
     needs_are_exact, words_change_depths, words_do_their_meaning, words_keep_their_bounds,
     words_leave_cells,
