@@ -4,8 +4,8 @@ ghost use Rattle.cell_math.specs.Cell as cell;
 ghost use Rattle.forth_program.specs.State.{World};
 ghost use Rattle.forth_program.specs.State as run;
 ghost use Rattle.forth_program.specs.Step as step;
-ghost use Rattle.forth_program.specs.ItemTrees.{node_of, nodes_of};
-ghost use Rattle.reference_eval.specs.Work.{first_of, is_mark, is_structure, works};
+ghost use Rattle.forth_program.specs.ItemTrees.{arms_tree, node_of, nodes_of};
+ghost use Rattle.reference_eval.specs.Work.{first_of, is_mark, is_structure, work_on, works};
 ghost use Rattle.reference_eval.specs.Machine.{Acts, state_of};
 
 use crate::ends::{End, Halt, Stop};
@@ -13,7 +13,7 @@ use crate::machine::{Entry, Frame, Machine};
 use crate::stack::Stack;
 use crate::work::{First, Task, leave_loop};
 use cell_math::{add, signed};
-use forth_program::{DefId, Item, Program};
+use forth_program::{DefId, Item, Items, Program};
 use std::mem;
 
 // Whether a turn of a loop by this step crosses the boundary between the limit less one and the limit.
@@ -30,6 +30,15 @@ fn crosses(index: u16, limit: u16, by: u16) -> bool
 }
 
 impl<'a> Machine<'a> {
+    // A list of items is done, and then a mark.
+    fn begin(&mut self, body: &'a [Item], mark: Task<'a>) -> Result<(), Stop>
+        ensures { (w : World) → Acts result (run.Goes (record (state_of self.old w) { work = step.before (nodes_of body.now) (work_on mark.entry (works self.old.tasks)) })) (state_of self.new w) }
+    {
+        self.tasks.push(mark)?;
+        self.tasks.push(Task::List(body))?;
+        Ok(())
+    }
+
     // A definition begins, in a frame of its own.
     pub(crate) fn call(&mut self, program: &'a Program, id: DefId) -> Result<(), Stop>
         ensures { (w : World) → Acts result (run.Goes (step.called program.now id.0 (state_of self.old w))) (state_of self.new w) }
@@ -133,6 +142,29 @@ impl<'a> Machine<'a> {
         Ok(())
     }
 
+    // The test of an arm of a case: its body follows where the two top cells are equal, else the other arms.
+    fn test_arm(
+        &mut self,
+        body: &'a [Item],
+        others: &'a [(Items, Items)],
+        rest: &'a [Item],
+    ) -> Result<(), Stop>
+        ensures { (w : World) → Acts result (step.of_chooses (nodes_of body.now) (arms_tree others.now) (nodes_of rest.now) (works self.old.tasks) (state_of self.old w).cells (state_of self.old w)) (state_of self.new w) }
+    {
+        let Some(x) = self.cells.pop() else {
+            return Err(Stop::Underflow);
+        };
+        let Some(y) = self.cells.pop() else {
+            return Err(Stop::Underflow);
+        };
+        if x == y {
+            return self.begin(body, Task::EndOf);
+        }
+        self.cells.push(y)?;
+        self.tasks.push(Task::Case(others, rest))?;
+        Ok(())
+    }
+
     /// What a mark does.
     pub(crate) fn mark(&mut self, program: &'a Program, first: First<'a>) -> Result<(), Stop>
         requires { IsTrue (is_mark first) }
@@ -145,32 +177,22 @@ impl<'a> Machine<'a> {
                 let Some(flag) = self.cells.pop() else {
                     return Err(Stop::Underflow);
                 };
-                if flag == 0 {
-                    self.tasks.push(Task::UntilTest(body))?;
-                    self.tasks.push(Task::List(body))?;
+                if flag != 0 {
+                    return Ok(());
                 }
-                Ok(())
+                self.begin(body, Task::UntilTest(body))
             }
             First::WhileTest(test, body) => {
                 let Some(flag) = self.cells.pop() else {
                     return Err(Stop::Underflow);
                 };
-                if flag != 0 {
-                    self.tasks.push(Task::Repeat(test, body))?;
-                    self.tasks.push(Task::List(body))?;
+                if flag == 0 {
+                    return Ok(());
                 }
-                Ok(())
+                self.begin(body, Task::Repeat(test, body))
             }
-            First::Repeat(test, body) => {
-                self.tasks.push(Task::WhileTest(test, body))?;
-                self.tasks.push(Task::List(test))?;
-                Ok(())
-            }
-            First::BeginAgain(body) => {
-                self.tasks.push(Task::BeginAgain(body))?;
-                self.tasks.push(Task::List(body))?;
-                Ok(())
-            }
+            First::Repeat(test, body) => self.begin(test, Task::WhileTest(test, body)),
+            First::BeginAgain(body) => self.begin(body, Task::BeginAgain(body)),
             First::Turn(body, plus) => {
                 if !plus {
                     return self.turn(1, body, plus);
@@ -180,22 +202,7 @@ impl<'a> Machine<'a> {
                 };
                 self.turn(step, body, plus)
             }
-            First::OfTest(body, others, rest) => {
-                let Some(x) = self.cells.pop() else {
-                    return Err(Stop::Underflow);
-                };
-                let Some(y) = self.cells.pop() else {
-                    return Err(Stop::Underflow);
-                };
-                if x == y {
-                    self.tasks.push(Task::EndOf)?;
-                    self.tasks.push(Task::List(body))?;
-                    return Ok(());
-                }
-                self.cells.push(y)?;
-                self.tasks.push(Task::Case(others, rest))?;
-                Ok(())
-            }
+            First::OfTest(body, others, rest) => self.test_arm(body, others, rest),
             First::EndCase => match self.cells.pop() {
                 Some(_) => Ok(()),
                 None => Err(Stop::Underflow),
