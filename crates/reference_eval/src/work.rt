@@ -1,5 +1,5 @@
 // The work of a frame: what it still has to do, and what is first of it.
-ghost use Rattle.std.specs.Prelude.{◌≡◌, IfOk, IsTrue};
+ghost use Rattle.std.specs.Prelude.{◌≡◌, IfOk, IsTrue, MatchOption};
 ghost use Rattle.forth_program.specs.ItemTrees.{arms_tree, node_of, nodes_of};
 ghost use Rattle.forth_program.specs.Step as step;
 ghost use Rattle.forth_program.specs.Tree.{Case};
@@ -138,34 +138,48 @@ fn open_case<'a>(
     }
 }
 
+// What a task begins with, or nothing where it is a list with no items.
+fn first_of_task<'a>(
+    task: Task<'a>,
+    tasks: &mut Stack<Task<'a>>,
+) -> Result<Option<First<'a>>, AllocError>
+    ensures first { IfOk result (λ found. MatchOption found (works tasks.new ≡ work_on task.entry (works tasks.old)) (λ first. step.first_work (work_on task.entry (works tasks.old)) ≡ first_of first (works tasks.new))) }
+    ensures same_or_open { IfOk result (λ found. MatchOption found (tasks.new ≡ tasks.old) (λ first. IsTrue (is_open first))) }
+{
+    match task {
+        Task::List(items) => match items.split_first() {
+            None => Ok(None),
+            Some((item, rest)) => {
+                tasks.push(Task::List(rest))?;
+                let first = open(item, tasks)?;
+                Ok(Some(first))
+            }
+        },
+        Task::Case(arms, rest) => {
+            let first = open_case(arms, rest, tasks)?;
+            Ok(Some(first))
+        }
+        Task::Token(token) => Ok(Some(First::Token(token))),
+        Task::TrueEnd => Ok(Some(First::TrueEnd)),
+        Task::UntilTest(body) => Ok(Some(First::UntilTest(body))),
+        Task::WhileTest(test, body) => Ok(Some(First::WhileTest(test, body))),
+        Task::Repeat(test, body) => Ok(Some(First::Repeat(test, body))),
+        Task::BeginAgain(body) => Ok(Some(First::BeginAgain(body))),
+        Task::Turn(body, plus) => Ok(Some(First::Turn(body, plus))),
+        Task::OfTest(body, others, rest) => Ok(Some(First::OfTest(body, others, rest))),
+        Task::EndOf => Ok(Some(First::EndOf)),
+        Task::EndCase => Ok(Some(First::EndCase)),
+    }
+}
+
 /// Takes off what is first.
 pub(crate) fn take_first<'a>(tasks: &mut Stack<Task<'a>>) -> Result<First<'a>, AllocError>
     ensures first { IfOk result (λ found. step.first_work (works tasks.old) ≡ first_of found (works tasks.new)) }
     ensures open { IfOk result (λ found. IsTrue (is_open found)) }
 {
     while let Some(task) = tasks.pop() {
-        match task {
-            Task::List(items) => {
-                if let Some((item, rest)) = items.split_first() {
-                    tasks.push(Task::List(rest))?;
-                    let first = open(item, tasks)?;
-                    return Ok(first);
-                }
-            }
-            Task::Case(arms, rest) => {
-                let first = open_case(arms, rest, tasks)?;
-                return Ok(first);
-            }
-            Task::Token(token) => return Ok(First::Token(token)),
-            Task::TrueEnd => return Ok(First::TrueEnd),
-            Task::UntilTest(body) => return Ok(First::UntilTest(body)),
-            Task::WhileTest(test, body) => return Ok(First::WhileTest(test, body)),
-            Task::Repeat(test, body) => return Ok(First::Repeat(test, body)),
-            Task::BeginAgain(body) => return Ok(First::BeginAgain(body)),
-            Task::Turn(body, plus) => return Ok(First::Turn(body, plus)),
-            Task::OfTest(body, others, rest) => return Ok(First::OfTest(body, others, rest)),
-            Task::EndOf => return Ok(First::EndOf),
-            Task::EndCase => return Ok(First::EndCase),
+        if let Some(first) = first_of_task(task, tasks)? {
+            return Ok(first);
         }
     }
     Ok(First::BodyEnd)
