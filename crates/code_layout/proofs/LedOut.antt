@@ -25,7 +25,7 @@ use Rattle.code_layout.proofs.Machine.{Laws, wider}
 use Rattle.code_layout.proofs.Runs.{steps_on, steps_end, spent_on, StandsAs, StandsWhere, height_is}
 use Rattle.code_layout.proofs.Image.{code_size, leaves as go_code}
 use Rattle.code_layout.proofs.Simulation.{Main, main_reaches, called, from_main, main, stand}
-use Rattle.code_layout.proofs.ReturningRuns.{token_no_go}
+use Rattle.code_layout.proofs.ReturningParts.{token_no_go}
 use Rattle.code_layout.proofs.GoStep.{GoCode, Leads, led_places, go_leads}
 
 spent_once : (p : SourceProgram) (total : ℕ) (o : Outcome) → spent_after total o (spent p total 0) ≡ total

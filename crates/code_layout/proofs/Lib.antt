@@ -24,6 +24,7 @@ pub mod Simulation
 pub mod PatchedMachine
 pub mod SourceReturns
 pub mod PatchedRun
+pub mod ReturningParts
 pub mod ReturningRuns
 pub mod ReturningImage
 pub mod LedOut

@@ -33,7 +33,7 @@ use Rattle.code_layout.proofs.Image.{first_world_is, front, front_size, all_part
 use Rattle.code_layout.proofs.Library.{routines}
 use Rattle.code_layout.proofs.Simulation.{enough}
 use Rattle.code_layout.proofs.PatchedRun.{mended, run_patched, same_runs, StaysPatched, one_stays, fewer_stay, mended_stays}
-use Rattle.code_layout.proofs.ReturningRuns.{last_inside, Back, StepsFitBack, moves, claims}
+use Rattle.code_layout.proofs.ReturningRuns.{Patches, last_inside, Back, StepsFitBack, moves, claims}
 
 -- ---- two cells behind others
 
@@ -230,6 +230,27 @@ module _ (laws : Laws) (only : OnlyGoLeaves) (library : List Nodes) (p : SourceP
   apart : (returns_at == last) ≡ false
   apart = let f = in_front in let lt : execute_place library p + 10 < suc (leaving_place library p) = omega (arith, f) in grind (arith, nat_tests)
 
+  abbrev patches : Patches laws p
+  patches = record {
+    code = code_with 0x700C;
+    code' = patched_code;
+    place = routine_place library p;
+    size = size;
+    all = stand;
+    last = last;
+    last_is = last_is;
+    below = below;
+    first_cell = first_cell;
+    return_cell = return_stands;
+    cell' = has 0x6001;
+    cell = has 0x700C;
+    codes = sets 0x700C 0x6001;
+    mends = sets 0x6001 0x700C;
+    returns_at = returns_at;
+    returns_there = returns_there;
+    apart = apart;
+  }
+
   abbrev start : OpenConfiguration
   start = standing_as (first_state p input) (machine_at patched_code 0 [] [] [])
 
@@ -249,18 +270,18 @@ module _ (laws : Laws) (only : OnlyGoLeaves) (library : List Nodes) (p : SourceP
 
   abbrev Main : ℕ → Type 0
   Main k =
-      Back laws only p (code_with 0x700C) patched_code (routine_place library p) size stand last last_is below first_cell return_stands (has 0x700C) (has 0x6001) (sets 0x700C 0x6001) (sets 0x6001 0x700C) returns_at returns_there apart
+      Back laws only p patches
       k 8 (ahead (first_state p input).work + 0) returns (first_state p input) main
 
   main_back : (k : ℕ) → IsSafeReturning p (backs_of returns) input k → Main k
   unfolding run_back
   main_back k well =
-      claims laws only p (code_with 0x700C) patched_code (routine_place library p) size stand last last_is below first_cell return_stands (has 0x700C) (has 0x6001) (sets 0x700C 0x6001) (sets 0x6001 0x700C) returns_at returns_there apart
+      claims laws only p patches
       returns come k 8 (routine_place library p (Definition p.main_body)) None (first_state p input) (Some 2 ∷ []) [] [] main_meets well.lacks_nothing well.depth_fits
 
   abbrev long : last < length (front laws library p built ++ (0x6147 ∷ 0x6001 ∷ zeros))
   long =
-      last_inside laws only p (code_with 0x700C) patched_code (routine_place library p) size stand last last_is below first_cell return_stands (has 0x700C) (has 0x6001) (sets 0x700C 0x6001) (sets 0x6001 0x700C) returns_at returns_there apart
+      last_inside laws only p patches
 
   abbrev mend : OpenConfiguration → OpenConfiguration
   mend w = mended (code_with 0x700C) patched_code last p.data_start below (sets 0x6001 0x700C) long w
@@ -283,7 +304,7 @@ module _ (laws : Laws) (only : OnlyGoLeaves) (library : List Nodes) (p : SourceP
       ∙ ap (λ m. run_returning open_storage (machine_back (code_with 0x700C)) last p.data_start returns (suc n) (record start { core = record start.core { memory = m } })) (sym (sets 0x6001 0x700C (first_state p input).world.space))
       ∙ same_runs (code_with 0x700C) patched_code last p.data_start below (sets 0x6001 0x700C) long returns (suc n) start (omega (arith, long, length-append patched_code (first_state p input).world.space))
       ∙ ap mend
-      (moves laws only p (code_with 0x700C) patched_code (routine_place library p) size stand last last_is below first_cell return_stands (has 0x700C) (has 0x6001) (sets 0x700C 0x6001) (sets 0x6001 0x700C) returns_at returns_there apart
+      (moves laws only p patches
       returns n start main start_not called)
 
   -- what the patched machine shows the mended one shows
@@ -354,7 +375,7 @@ module _ (laws : Laws) (only : OnlyGoLeaves) (library : List Nodes) (p : SourceP
   Patched high return_high n w = StaysPatched (code_with 0x700C) patched_code last p.data_start below (sets 0x6001 0x700C) long high return_high returns n w
 
   fits_back : (k high return_high : ℕ) → StacksFitReturning p (backs_of returns) input high return_high k →
-      StepsFitBack laws only p (code_with 0x700C) patched_code (routine_place library p) size stand last last_is below first_cell return_stands (has 0x700C) (has 0x6001) (sets 0x700C 0x6001) (sets 0x6001 0x700C) returns_at returns_there apart
+      StepsFitBack laws only p patches
       returns high return_high k (first_state p input)
   unfolding run_back
   fits_back k high return_high fit = fit

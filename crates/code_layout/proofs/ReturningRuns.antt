@@ -1,21 +1,20 @@
 -- Runs whose GO comes back, from where a state stands, on code with another cell in place of the return that ends the code of GO.
-use Rattle.std.proofs.Common.{◌≡◌, ℕ, zero, suc, ◌+◌, ◌-◌, ◌*◌, ◌/◌, ◌%◌, ◌<◌, ◌≤◌, ◌==◌, inl, inr, ⊎_elim, cond, Bool, true, false, List, [], ◌∷◌, ◌++◌, length, slice_index, slice_set, Option, Some, None, refl, sym, ap, ◌∙◌, subst, length-append, arith, add-mul}
-use Rattle.std.specs.Prelude.{pos, negsuc, ◌+ℤ◌, ◌&&◌, if◌then◌else◌}
+use Rattle.std.proofs.Common.{◌≡◌, ℕ, zero, suc, ◌+◌, ◌-◌, ◌*◌, ◌/◌, ◌%◌, ◌<◌, ◌≤◌, ◌==◌, inl, inr, ⊎_elim, Bool, true, false, List, [], ◌∷◌, ◌++◌, length, slice_index, slice_set, Option, Some, None, refl, sym, ap, ◌∙◌, subst, length-append, arith, add-mul}
+use Rattle.std.specs.Prelude.{◌&&◌, if◌then◌else◌}
 use Rattle.std.specs.List.{All}
 use Rattle.std.proofs.lemmas.List.Elements.{All-head, All-tail}
-use Rattle.std.proofs.lemmas.Bool.Decides.{nat_tests, leb_tells}
+use Rattle.std.proofs.lemmas.Bool.Decides.{nat_tests}
 use Rattle.j1_table.specs.Instruction.{decoded}
 use Rattle.j1_simulator.specs.Effect.{effect, following}
 use Rattle.j1_simulator.specs.Step.{Stop}
 use Rattle.j1_simulator.specs.OpenMachine.{top_cell, rest, open_storage}
 use Rattle.j1_simulator.specs.Run.{run, advanced, after_effect}
 use Rattle.word_table.specs.declared.word.Word.TheVariants.{Go, Execute, ToR}
-use Rattle.forth_program.specs.Tree.{Node, Literal, Plain, Call, Child, Text, If, Until, While, Again, Do, QDo, Case, Leave, Exit}
+use Rattle.forth_program.specs.Tree.{Plain}
 use Rattle.forth_program.specs.Tail.{ends_body}
-use Rattle.forth_program.specs.State.{Entry, Cell, Loop, Work, Todo, Frame, World, State, End, Halted, InputEnded, Outside, Underflow, Unbalanced, Left, Outcome, Goes, Ends}
+use Rattle.forth_program.specs.State.{Cell, Work, Todo, World, State, End, Halted, InputEnded, Outside, Underflow, Unbalanced, Left, Outcome, Goes, Ends}
 use Rattle.forth_program.specs.Program.{SourceProgram}
-use Rattle.forth_program.specs.Form.{may_be_token}
-use Rattle.forth_program.specs.Step.{IsWord, first_in, first_work, step}
+use Rattle.forth_program.specs.Step.{IsWord, first_work, step}
 use Rattle.forth_program.specs.Run.{steps, end_of, lacks, leaves}
 use Rattle.forth_program.specs.RunLaws.{OnlyGoLeaves, IsGoStep}
 use Rattle.forth_program.specs.Price.{first_price, step_price, spent}
@@ -31,91 +30,62 @@ use Rattle.code_layout.specs.Agreement.{Shows, stop_of_outcome}
 use Rattle.code_layout.specs.Returning.{MachineReturn, backs_of, machine_back, goes_back, is_running, is_leaving, LeftWithin, HoldsBack}
 use Rattle.code_layout.proofs.Machine.{Laws, Runs, narrower, wider, runs_then, runs_one}
 use Rattle.code_layout.proofs.Phrases.{phrase_runs}
-use Rattle.code_layout.proofs.Work.{ahead, unfinished, Returns, CallStands, Stands, Loops, Called, Frames, ends_at_return, back, opens, Meets}
+use Rattle.code_layout.proofs.Work.{ahead, unfinished, Returns, CallStands, Stands, Loops, ends_at_return, back, opens, Meets}
 use Rattle.code_layout.proofs.Steps.{AllStand}
-use Rattle.code_layout.proofs.Runs.{strays, strays_not, steps_on, steps_end, no_steps, StandsAs, StandsWhere, Nearer, Reaches, reaches, height_is}
+use Rattle.code_layout.proofs.Runs.{strays, strays_not, StandsAs, StandsWhere, Nearer, Reaches, reaches, height_is}
 use Rattle.code_layout.proofs.GoStep.{led_places}
 use Rattle.code_layout.proofs.PatchedMachine.{set_cell, after_set, Keeps}
 use Rattle.code_layout.proofs.PatchedRun.{returned, run_patched, pass, mended, StaysPatched, nothing_stays, one_less_stays, leaving_stays, stays_then, stopped_within}
 use Rattle.code_layout.proofs.SourceReturns.{plain, LeavesIn, split, behind}
+use Rattle.code_layout.proofs.ReturningParts.{some_fit, token_no_go, known_top, known_base, led_length, led_known, down_one, world_fits}
 
--- some stacks are enough for any number of steps
-pub some_fit : (p : SourceProgram) (k : ℕ) (s : State) → (high : ℕ) × (return_high : ℕ) × StepsFit p high return_high k s
-some_fit p zero s = (0, 0, λ j t lt e. absurd (omega arith))
-some_fit p (suc k) s = by (step p s) refl (λ m. some_fit p k m)
-  where
-    own : (more return_more : ℕ) (t : State) → s ≡ t →
-        (length t.cells + peak_of t.callers (first_work t.work) ≤ length s.cells + peak_of s.callers (first_work s.work) + more)
-        × (return_height t + back_of (first_work t.work) ≤ return_height s + back_of (first_work s.work) + execute_back p (first_work s.work) s.cells + return_more)
-        × (return_height t + execute_back p (first_work t.work) t.cells ≤ return_height s + back_of (first_work s.work) + execute_back p (first_work s.work) s.cells + return_more)
-    own more return_more t same =
-        subst
-        (λ x.
-        (length x.cells + peak_of x.callers (first_work x.work) ≤ length s.cells + peak_of s.callers (first_work s.work) + more)
-        × (return_height x + back_of (first_work x.work) ≤ return_height s + back_of (first_work s.work) + execute_back p (first_work s.work) s.cells + return_more)
-        × (return_height x + execute_back p (first_work x.work) x.cells ≤ return_height s + back_of (first_work s.work) + execute_back p (first_work s.work) s.cells + return_more)) same
-        (omega arith, omega arith, omega arith)
+-- the code of an image with GO, and the same code with another cell in place of the return that ends the code of GO
+pub record Patches (laws : Laws) (p : SourceProgram) : Type 0 where
+  pub code : List ℕ
+  pub code' : List ℕ
+  pub place : Routine → ℕ
+  pub size : length code' ≡ p.data_start / 2
+  pub all : AllStand laws p code' place size
+  -- that cell is the last of GO's
+  pub last : ℕ
+  pub last_is : last ≡ following (place Leaving)
+  pub below : last < p.data_start / 2
+  pub first_cell : StandIn code' (place Leaving) (0x6147 ∷ []) (following (place Leaving))
+  pub return_cell : HoldsInstruction code last (decoded 0x700C)
+  pub cell' : (space : List ℕ) → slice_index (code' ++ space) last ≡ 0x6001
+  pub cell : (space : List ℕ) → slice_index (code ++ space) last ≡ 0x700C
+  pub codes : (space : List ℕ) → slice_set (code ++ space) last 0x6001 ≡ code' ++ space
+  pub mends : (space : List ℕ) → slice_set (code' ++ space) last 0x700C ≡ code ++ space
+  -- and a return stands elsewhere too
+  pub returns_at : ℕ
+  pub returns_there : Returns code' place p returns_at
+  pub apart : (returns_at == last) ≡ false
 
-    fits : (high return_high : ℕ) (m : State) → step p s ≡ Goes m → StepsFit p high return_high k m →
-        StepsFit p (length s.cells + peak_of s.callers (first_work s.work) + high) (return_height s + back_of (first_work s.work) + execute_back p (first_work s.work) s.cells + return_high) (suc k) s
-    fits high return_high m q fit zero t lt e = own high return_high t (let f : Goes s ≡ Goes t = sym (no_steps p s) ∙ e in cc)
-    fits high return_high m q fit (suc j) t lt e = let f = fit j t (omega arith) (sym (steps_on p s j 0 m q) ∙ e) in (omega (arith, f.0), omega (arith, f.1), omega (arith, f.2))
+module _ (laws : Laws) (only : OnlyGoLeaves) (p : SourceProgram) (patches : Patches laws p) where
+  abbrev code : List ℕ
+  code = patches.code
 
-    ends : (end : End) (world : World) → step p s ≡ Ends end world →
-        StepsFit p (length s.cells + peak_of s.callers (first_work s.work) + 0) (return_height s + back_of (first_work s.work) + execute_back p (first_work s.work) s.cells + 0) (suc k) s
-    ends end world q zero t lt e = own 0 0 t (let f : Goes s ≡ Goes t = sym (no_steps p s) ∙ e in cc)
-    ends end world q (suc j) t lt e = absurd (let f : Ends end world ≡ Goes t = sym (steps_end p s j 0 end world q) ∙ e in cc)
+  abbrev code' : List ℕ
+  code' = patches.code'
 
-    by : (o : Outcome) → step p s ≡ o → ((m : State) → (high : ℕ) × (return_high : ℕ) × StepsFit p high return_high k m) → (high : ℕ) × (return_high : ℕ) × StepsFit p high return_high (suc k) s
-    by (Goes m) q later =
-        let l = later m in (
-          length s.cells + peak_of s.callers (first_work s.work) + l.0,
-          return_height s + back_of (first_work s.work) + execute_back p (first_work s.work) s.cells + l.1,
-          fits l.0 l.1 m q l.2,
-        )
-    by (Ends end world) q later = (
-      length s.cells + peak_of s.callers (first_work s.work) + 0,
-      return_height s + back_of (first_work s.work) + execute_back p (first_work s.work) s.cells + 0,
-      ends end world q,
-    )
+  abbrev place : Routine → ℕ
+  place = patches.place
 
--- no token is GO
-pub token_no_go : (node : Node) (w after : List Work) → may_be_token node ≡ true → first_in node w ≡ IsWord Go after → ⊥
-token_no_go (Literal value) w after may e = cc
-token_no_go (Plain word) w after may e = let same : word ≡ Go = cc in let f : false ≡ true = subst (λ x. may_be_token (Plain x) ≡ true) same may in cc
-token_no_go (Call d) w after may e = cc
-token_no_go (Child d address) w after may e = cc
-token_no_go (Text kind address size) w after may e = cc
-token_no_go (If first second) w after may e = let f : false ≡ true = may in cc
-token_no_go (Until body) w after may e = let f : false ≡ true = may in cc
-token_no_go (While test body) w after may e = let f : false ≡ true = may in cc
-token_no_go (Again body) w after may e = let f : false ≡ true = may in cc
-token_no_go (Do body plus) w after may e = let f : false ≡ true = may in cc
-token_no_go (QDo body plus) w after may e = let f : false ≡ true = may in cc
-token_no_go (Case arms rest) w after may e = let f : false ≡ true = may in cc
-token_no_go Leave w after may e = cc
-token_no_go Exit w after may e = cc
+  abbrev size : length patches.code' ≡ p.data_start / 2
+  size = patches.size
 
--- the top of the return places is known
-known_top : (es : List Entry) (base : List (Option ℕ)) → ((x : ℕ) × (below : List (Option ℕ)) × (base ≡ Some x ∷ below)) → (x : ℕ) × (below : List (Option ℕ)) × (return_places es base ≡ Some x ∷ below)
-known_top [] base h = h
-known_top (Cell value ∷ es) base h = (value, return_places es base, refl)
-known_top (Loop limit index ∷ es) base h = (_, _, refl)
+  abbrev all : AllStand laws p patches.code' patches.place patches.size
+  all = patches.all
 
-known_base : (code : List ℕ) (place : Routine → ℕ) (p : SourceProgram) (fs : List Frame) (base : List (Option ℕ)) → Frames code place p fs base → (x : ℕ) × (below : List (Option ℕ)) × (base ≡ Some x ∷ below)
-known_base code place p [] base h = (2, [], h)
-known_base code place p (f ∷ fs) base h = by (ends_body f.work) h.1 (known_base code place p fs h.0 h.2)
-  where
-    by : (tail : Bool) → Called code place p tail f base h.0 → ((x : ℕ) × (below : List (Option ℕ)) × (h.0 ≡ Some x ∷ below)) → (x : ℕ) × (below : List (Option ℕ)) × (base ≡ Some x ∷ below)
-    by true c later = let k = known_top f.entries h.0 later in (k.0, k.1, c.returns ∙ k.2)
-    by false c later = (_, _, c.returns)
+  abbrev last : ℕ
+  last = patches.last
 
-module _ (laws : Laws) (only : OnlyGoLeaves) (p : SourceProgram) (code code' : List ℕ) (place : Routine → ℕ) (size : length code' ≡ p.data_start / 2) (all : AllStand laws p code' place size)
-    (last : ℕ) (last_is : last ≡ following (place Leaving)) (below : last < p.data_start / 2)
-    (first_cell : StandIn code' (place Leaving) (0x6147 ∷ []) (following (place Leaving))) (return_cell : HoldsInstruction code last (decoded 0x700C))
-    (cell : (space : List ℕ) → slice_index (code ++ space) last ≡ 0x700C) (cell' : (space : List ℕ) → slice_index (code' ++ space) last ≡ 0x6001)
-    (codes : (space : List ℕ) → slice_set (code ++ space) last 0x6001 ≡ code' ++ space) (mends : (space : List ℕ) → slice_set (code' ++ space) last 0x700C ≡ code ++ space)
-    (returns_at : ℕ) (returns_there : Returns code' place p returns_at) (apart : (returns_at == last) ≡ false) where
+  abbrev below : patches.last < p.data_start / 2
+  below = patches.below
+
+  abbrev mends : (space : List ℕ) → slice_set (patches.code' ++ space) patches.last 0x700C ≡ patches.code ++ space
+  mends = patches.mends
+
   abbrev patched : List MachineReturn → ℕ → OpenConfiguration → OpenConfiguration
   patched returns n w = run_patched code' last p.data_start returns n w
 
@@ -123,7 +93,7 @@ module _ (laws : Laws) (only : OnlyGoLeaves) (p : SourceProgram) (code code' : L
   last_inside = omega (arith, size, below)
 
   keeps : (q : ℕ) (returns data_above return_above : List (Option ℕ)) (c : List ℕ) (world : World) → Keeps last 0x6001 (standing_at_depths (machine_at code' q returns data_above return_above) c world)
-  keeps q returns data_above return_above c world = record { cell_is = cell' world.space; inside = omega (arith, last_inside, length-append code' world.space) }
+  keeps q returns data_above return_above c world = record { cell_is = patches.cell' world.space; inside = omega (arith, last_inside, length-append code' world.space) }
 
   -- ---- the code of GO
 
@@ -133,18 +103,18 @@ module _ (laws : Laws) (only : OnlyGoLeaves) (p : SourceProgram) (code code' : L
   goes_there a c returns up up' world =
       let x = standing_at_depths (machine_at code last (Some a ∷ returns) up up') c world in
       let y = standing_at_depths (machine_at code (a / 2 % 0x2000) returns up (Some a ∷ up')) c world in
-      let leads = laws.returns p.data_start a (machine_at code last returns up up') c world return_cell in
+      let leads = laws.returns p.data_start a (machine_at code last returns up up') c world patches.return_cell in
       let made : after_effect None open_storage p.data_start (effect last (decoded 0x700C)) (standing_at_depths (machine_at code last (Some a ∷ returns) up up') c world) ≡ standing_at_depths
       (machine_at code (a / 2 % 0x2000) returns up (Some a ∷ up')) c world =
-      ap (λ n. after_effect None open_storage p.data_start (effect last (decoded n)) (standing_at_depths (machine_at code last (Some a ∷ returns) up up') c world)) (sym (cell world.space)) ∙ leads.makes in
+      ap (λ n. after_effect None open_storage p.data_start (effect last (decoded n)) (standing_at_depths (machine_at code last (Some a ∷ returns) up up') c world)) (sym (patches.cell world.space)) ∙ leads.makes in
       ap (λ m. after_effect None open_storage p.data_start (effect last (decoded 0x700C)) (record
-      (standing_at_depths (machine_at code' last (Some a ∷ returns) up up') c world) { core = record (standing_at_depths (machine_at code' last (Some a ∷ returns) up up') c world).core { memory = m } })) (sym (codes world.space))
+      (standing_at_depths (machine_at code' last (Some a ∷ returns) up up') c world) { core = record (standing_at_depths (machine_at code' last (Some a ∷ returns) up up') c world).core { memory = m } })) (sym (patches.codes world.space))
       ∙ after_set last 0x6001 p.data_start below None (effect last (decoded 0x700C)) x
       ∙ ap (set_cell last 0x6001 p.data_start below) made
       ∙ ap (λ m. record (standing_at_depths (machine_at code' (a / 2 % 0x2000) returns up (Some a ∷ up')) c world) {
         core = record
             (standing_at_depths (machine_at code' (a / 2 % 0x2000) returns up (Some a ∷ up')) c world).core { memory = m };
-      }) (codes world.space)
+      }) (patches.codes world.space)
 
   -- in some instructions, with at most ten cells more than are left behind it
   record AtLast (v : OpenConfiguration) (count a : ℕ) (c : List ℕ) (returns : List (Option ℕ)) (world : World) : Type 0 where
@@ -159,12 +129,12 @@ module _ (laws : Laws) (only : OnlyGoLeaves) (p : SourceProgram) (code code' : L
       let taken : State = record { work = []; entries = Cell a ∷ []; callers = []; cells = c; world = world } in
       let one =
       phrase_runs p (length c + 10) (length returns + 10) returns laws code' size (ToR ∷ []) before taken (place Leaving) (following (place Leaving)) data_above return_above refl refl
-      (omega arith, omega arith, tt) first_cell fc tt fits starts in
+      (omega arith, omega arith, tt) patches.first_cell fc tt fits starts in
       record {
         up = one.0;
         up' = one.1;
         runs = subst (λ q. Runs p.data_start (length c + 10) (length returns + 10) 1 (standing_at_depths (machine_at code' (place Leaving) returns data_above return_above) (a ∷ c) world)
-            (standing_at_depths (machine_at code' q (Some a ∷ returns) one.0 one.1) c world)) (sym last_is) one.2;
+            (standing_at_depths (machine_at code' q (Some a ∷ returns) one.0 one.1) c world)) (sym patches.last_is) one.2;
       }
 
   call_to_last : (tail : Bool) (pc a : ℕ) (c : List ℕ) (places data_above return_above : List (Option ℕ)) (K : Type 0) (world : World) → IsWorld world → world.data_start ≡ p.data_start → AreCells (a ∷ c) →
@@ -313,10 +283,6 @@ module _ (laws : Laws) (only : OnlyGoLeaves) (p : SourceProgram) (code code' : L
 
   -- ---- behind GO
 
-  down_one : (n : ℕ) → pos (suc n) +ℤ negsuc 0 ≡ pos n
-  down_one n =
-      ⊎_elim (λ t. absurd (omega (arith, t.1))) (λ t. ap (λ x. cond x (negsuc (1 - suc (suc n))) (pos (suc n - 1))) t.0 ∙ ap pos (omega arith)) (leb_tells (suc (suc n)) 1)
-
   -- the machine that comes back
   back_is : (r : MachineReturn) (q x : ℕ) (places up up' : List (Option ℕ)) (c : List ℕ) (world : World) →
       machine_back code' r (standing_at_depths (machine_at code' q (Some x ∷ places) up up') c world) ≡ standing_at_depths (machine_at code' (x / 2 % 0x2000) places r.data_above (Some x ∷ r.return_above)) c (world_back r.back world)
@@ -400,27 +366,6 @@ module _ (laws : Laws) (only : OnlyGoLeaves) (p : SourceProgram) (code code' : L
       (k total pc : ℕ) (out : Option ℕ) (s : State) (base data_above return_above : List (Option ℕ)) → Meets code' place p out pc s base →
       lacks (steps_back p (backs_of returns) k s) ≡ false → DepthsBack returns k s → Back k total (ahead s.work + unfinished s.callers) returns s (At pc base data_above return_above s)
 
-  cells_small : (cells : List ℕ) → AreCells cells → (i : ℕ) → slice_index cells i < 65536
-  cells_small [] small zero = omega arith
-  cells_small [] small (suc i) = omega arith
-  cells_small (x ∷ cells) small zero = small.0
-  cells_small (x ∷ cells) small (suc i) = cells_small cells small.1 i
-
-  bytes_small : (input : List ℕ) → All (λ byte. byte < 256) input → (i : ℕ) → slice_index input i < 256
-  bytes_small [] bytes zero = omega arith
-  bytes_small [] bytes (suc i) = omega arith
-  bytes_small (byte ∷ input) bytes zero = All-head (λ byte. byte < 256) byte input bytes
-  bytes_small (byte ∷ input) bytes (suc i) = bytes_small input (All-tail (λ byte. byte < 256) byte input bytes) i
-
-  world_fits : (b : Return) (world : World) → IsReturn p b → IsWorld world → world.data_start ≡ p.data_start → IsWorld (world_back b world)
-  world_fits b world is fits starts = record {
-    data_start = fits.data_start;
-    aligned = fits.aligned;
-    room = omega (arith, is.size, ap (λ d. (0x4000 - d) / 2) starts);
-    space = cells_small b.space is.cells;
-    input = bytes_small b.input is.bytes;
-  }
-
   module _ (t : State) (pc address : ℕ) (base : List (Option ℕ)) (out : Option ℕ) (m : Meets code' place p out pc t base) (g : IsGoStep t address t.world) where
     -- the state behind GO
     then_is : (b : Return) → state_back b t ≡ record { work = g.after; entries = t.entries; callers = t.callers; cells = g.cells; world = world_back b t.world }
@@ -439,27 +384,27 @@ module _ (laws : Laws) (only : OnlyGoLeaves) (p : SourceProgram) (code code' : L
         (machine_back code' r (standing_at_depths (machine_at code' (address / 2 % 0x2000) (led_places tail pc (return_places t.entries base)) up up') g.cells t.world))
     resumes returns r is claims i total up up' true e here lack depths =
         let known = known_top t.entries base (known_base code' place p t.callers base m.frames) in
-        let meets : Meets code' place p here.out returns_at (record { work = g.after; entries = t.entries; callers = t.callers; cells = g.cells; world = world_back r.back t.world }) base = record {
-          stands = ends_at_return code' place p here.out returns_at g.after e here.few returns_there;
+        let meets : Meets code' place p here.out patches.returns_at (record { work = g.after; entries = t.entries; callers = t.callers; cells = g.cells; world = world_back r.back t.world }) base = record {
+          stands = ends_at_return code' place p here.out patches.returns_at g.after e here.few patches.returns_there;
           loops = here.loops;
           frames = m.frames;
           cells = cells_are.1;
           entries = m.entries;
-          world = world_fits r.back t.world is m.world m.starts;
+          world = world_fits p r.back t.world is m.world m.starts;
           starts = m.starts;
         } in
-        let b = claims i total returns_at here.out (record { work = g.after; entries = t.entries; callers = t.callers; cells = g.cells; world = world_back r.back t.world }) base r.data_above r.return_above meets lack depths in
-        let u = standing_at_depths (machine_at code' returns_at (return_places t.entries base) r.data_above r.return_above) g.cells (world_back r.back t.world) in
+        let b = claims i total patches.returns_at here.out (record { work = g.after; entries = t.entries; callers = t.callers; cells = g.cells; world = world_back r.back t.world }) base r.data_above r.return_above meets lack depths in
+        let u = standing_at_depths (machine_at code' patches.returns_at (return_places t.entries base) r.data_above r.return_above) g.cells (world_back r.back t.world) in
         let leads =
-        laws.returns p.data_start known.0 (machine_at code' returns_at known.1 r.data_above r.return_above) g.cells (world_back r.back t.world) returns_there in
-        let one : advanced None open_storage p.data_start (standing_at_depths (machine_at code' returns_at (return_places t.entries base) r.data_above r.return_above) g.cells (world_back r.back t.world))
+        laws.returns p.data_start known.0 (machine_at code' patches.returns_at known.1 r.data_above r.return_above) g.cells (world_back r.back t.world) patches.returns_there in
+        let one : advanced None open_storage p.data_start (standing_at_depths (machine_at code' patches.returns_at (return_places t.entries base) r.data_above r.return_above) g.cells (world_back r.back t.world))
         ≡ machine_back code' r (standing_at_depths (machine_at code' (address / 2 % 0x2000) (return_places t.entries base) up up') g.cells t.world) =
-        ap (λ ps. advanced None open_storage p.data_start (standing_at_depths (machine_at code' returns_at ps r.data_above r.return_above) g.cells (world_back r.back t.world))) known.2
+        ap (λ ps. advanced None open_storage p.data_start (standing_at_depths (machine_at code' patches.returns_at ps r.data_above r.return_above) g.cells (world_back r.back t.world))) known.2
         ∙ leads.makes
         ∙ sym (back_is r (address / 2 % 0x2000) known.0 known.1 up up' g.cells t.world)
         ∙ ap (λ ps. machine_back code' r (standing_at_depths (machine_at code' (address / 2 % 0x2000) ps up up') g.cells t.world)) (sym known.2) in
         one_on returns i total (ahead g.after + unfinished t.callers) (record { work = g.after; entries = t.entries; callers = t.callers; cells = g.cells; world = world_back r.back t.world }) u
-        (machine_back code' r (standing_at_depths (machine_at code' (address / 2 % 0x2000) (return_places t.entries base) up up') g.cells t.world)) apart one refl refl refl refl b
+        (machine_back code' r (standing_at_depths (machine_at code' (address / 2 % 0x2000) (return_places t.entries base) up up') g.cells t.world)) patches.apart one refl refl refl refl b
     resumes returns r is claims i total up up' false e here lack depths =
         let holds = subst (λ tail. CallStands code' place p tail pc (place Leaving) (Stands code' place p here.out (following pc) g.after)) e here.call in
         let meets : Meets code' place p here.out (following pc) (record { work = g.after; entries = t.entries; callers = t.callers; cells = g.cells; world = world_back r.back t.world }) base = record {
@@ -468,7 +413,7 @@ module _ (laws : Laws) (only : OnlyGoLeaves) (p : SourceProgram) (code code' : L
           frames = m.frames;
           cells = cells_are.1;
           entries = m.entries;
-          world = world_fits r.back t.world is m.world m.starts;
+          world = world_fits p r.back t.world is m.world m.starts;
           starts = m.starts;
         } in
         let b = claims i total (following pc) here.out (record { work = g.after; entries = t.entries; callers = t.callers; cells = g.cells; world = world_back r.back t.world }) base r.data_above
@@ -501,14 +446,6 @@ module _ (laws : Laws) (only : OnlyGoLeaves) (p : SourceProgram) (code code' : L
       else run_patched code' last p.data_start returns j (advanced None open_storage p.data_start (standing_at_depths (machine_at code' last (Some a ∷ places) up up') c world))) (same_number last)
       ∙ ap (λ v. goes_back (machine_back code') returns v (λ others u. run_patched code' last p.data_start others j u)) (goes_there a c places up up' world)
 
-  led_length : (tail : Bool) (pc : ℕ) (places : List (Option ℕ)) → length (led_places tail pc places) ≤ length places + 1
-  led_length true pc places = omega arith
-  led_length false pc places = omega arith
-
-  led_known : (tail : Bool) (pc : ℕ) (places : List (Option ℕ)) → ((x : ℕ) × (below : List (Option ℕ)) × (places ≡ Some x ∷ below)) → (x : ℕ) × (below : List (Option ℕ)) × (led_places tail pc places ≡ Some x ∷ below)
-  led_known true pc places h = h
-  led_known false pc places h = (2 * following pc, places, refl)
-
   last_stays : (returns : List MachineReturn) (j high return_high a : ℕ) (c : List ℕ) (places up up' : List (Option ℕ)) (world : World) → length c ≤ high → suc (length places) ≤ return_high →
       ((x : ℕ) × (below : List (Option ℕ)) × (places ≡ Some x ∷ below)) →
       HoldsBack code' returns (standing_at_depths (machine_at code' (a / 2 % 0x2000) places up (Some a ∷ up')) c world) (λ others v. Stays high return_high others j v) →
@@ -516,7 +453,7 @@ module _ (laws : Laws) (only : OnlyGoLeaves) (p : SourceProgram) (code code' : L
   last_stays returns j high return_high a c places up up' world few few_returns known later =
       let w = standing_at_depths (machine_at code' last (Some a ∷ places) up up') c world in
       let led = standing_at_depths (machine_at code' (a / 2 % 0x2000) places up (Some a ∷ up')) c world in
-      let leads = laws.returns p.data_start a (machine_at code last places up up') c world return_cell in
+      let leads = laws.returns p.data_start a (machine_at code last places up up') c world patches.return_cell in
       let bounds = leads.bounds.0 in
       let mended_is : mended code code' last p.data_start below mends last_inside w ≡ standing_at_depths (machine_at code last (Some a ∷ places) up up') c world =
       ap (λ m. record (standing_at_depths (machine_at code last (Some a ∷ places) up up') c world) { core = record (standing_at_depths (machine_at code last (Some a ∷ places) up up') c world).core { memory = m } }) (mends world.space) in

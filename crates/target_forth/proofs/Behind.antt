@@ -9,6 +9,7 @@ use Rattle.control_flow.specs.SourceLaw.{EachProgramIsSource}
 use Rattle.depth_certifier.specs.Certificate.{IsValid}
 use Rattle.depth_certifier.specs.Soundness.{most_cells, most_return_cells}
 use Rattle.code_layout.specs.Chip.{DepthStaysWithin}
+use Rattle.code_layout.specs.ReturningChip.{round_returning_run}
 use Rattle.chip_laws.specs.Returning.{CertifiedImagesReturn, CertifiedChipsReturn, CertifiedChipsReturnTight}
 use Rattle.target_forth.specs.declared.text.TheConstants.{KERNEL_TEXT}
 use Rattle.target_forth.specs.Kernel.{kernel_program}
@@ -30,5 +31,7 @@ on_chip sources form means valid chips rounds input bytes proper sized =
 pub tight : EachProgramIsSource → IsLibrary whole_library → LibraryMeans whole_library → IsValid kernel_program kernel_certificate → CertifiedChipsReturnTight → KernelKeepsTight
 tight sources form means valid chips rounds input n bytes proper sized =
     let keeps =
-    chips whole_library kernel_program rounds input kernel_certificate form means kernel_is_built has_go (sources Kernel KERNEL_TEXT.now kernel_program text_is_read).bytes bytes proper sized valid in
-    (subst (λ most. DepthStaysWithin most _) data_cells_are (keeps.data_stack n), subst (λ most. DepthStaysWithin most _) return_cells_are (keeps.return_stack n))
+    chips whole_library kernel_program rounds input kernel_certificate form means kernel_is_built has_go (sources Kernel KERNEL_TEXT.now kernel_program text_is_read).bytes bytes proper sized valid in (
+      subst (λ most. DepthStaysWithin most (round_returning_run whole_library kernel_program rounds input n).data_depth) data_cells_are (keeps.data_stack n),
+      subst (λ most. DepthStaysWithin most (round_returning_run whole_library kernel_program rounds input n).return_depth) return_cells_are (keeps.return_stack n),
+    )
