@@ -1,5 +1,6 @@
 -- The machine whose GO comes back, on code that has another cell in place of the return that ends the code of GO: it does the same.
-use Rattle.std.proofs.Common.{◌≡◌, ◌≢◌, ℕ, zero, suc, ◌+◌, ◌/◌, ◌<◌, ◌≤◌, ◌==◌, ◌&&◌, Bool, true, false, if◌then◌else◌, List, [], ◌∷◌, ◌++◌, length, slice_index, slice_set, Option, Some, None, refl, sym, ap, ◌∙◌, subst, length-append, arith}
+use Rattle.std.proofs.Common.{◌≡◌, ◌≢◌, ℕ, zero, suc, ◌+◌, ◌/◌, ◌<◌, ◌≤◌, ◌==◌, ◌&&◌, Bool, true, false, if◌then◌else◌, List}
+use Rattle.std.proofs.Common.{[], ◌∷◌, ◌++◌, length, slice_index, slice_set, Option, Some, None, refl, sym, ap, ◌∙◌, subst, length-append, arith}
 use Rattle.std.proofs.lemmas.Bool.Decides.{nat_tests}
 use Rattle.std.proofs.lemmas.List.{get_or-set_same, get_or-set_other}
 use Rattle.j1_table.specs.Instruction.{decoded}
@@ -242,7 +243,8 @@ module _ (code code' : List ℕ) (last data_start : ℕ) (below : last < data_st
     fewer_stay returns (suc n) zero w le stays = absurd (omega arith)
     fewer_stay returns (suc n) (suc m) w le stays = (stays.0, by returns (is_leaving last w) (λ others v h. fewer_stay others n m v (omega arith) h) stays.1)
       where
-        by : (returns : List MachineReturn) (b : Bool) → ((others : List MachineReturn) (v : OpenConfiguration) → StaysPatched high return_high others m v → StaysPatched high return_high others n v) → Onward high return_high w m returns b → Onward high return_high w n returns b
+        by : (returns : List MachineReturn) (b : Bool) → ((others : List MachineReturn) (v : OpenConfiguration) → StaysPatched high return_high others m v → StaysPatched high return_high others n v) →
+            Onward high return_high w m returns b → Onward high return_high w n returns b
         by returns false later h = later returns (advanced w.stop open_storage data_start w) h
         by [] true later h = (h.0, tt)
         by (r ∷ returns) true later h = (h.0, later returns (machine_back code' r (returned last data_start w)) h.1)

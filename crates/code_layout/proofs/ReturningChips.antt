@@ -182,7 +182,8 @@ module _ (rings : RingLaws) (code : List ℕ) (last data_start : ℕ) where
       by returns rounds true false e e' same sized stays knows leads later = absurd (let f : true ≡ false = sym e ∙ e' in cc)
       by returns rounds false true e e' same sized stays knows leads later = absurd (let f : false ≡ true = sym e ∙ e' in cc)
 
-  fewer_return : (high return_high : ℕ) (returns : List MachineReturn) (n : ℕ) (w : OpenConfiguration) → StaysReturning high return_high code last data_start returns (suc n) w → StaysReturning high return_high code last data_start returns n w
+  fewer_return : (high return_high : ℕ) (returns : List MachineReturn) (n : ℕ) (w : OpenConfiguration) → StaysReturning high return_high code last data_start returns (suc n) w →
+      StaysReturning high return_high code last data_start returns n w
   unfolding StaysReturning
   fewer_return high return_high returns zero w stays = tt
   fewer_return high return_high returns (suc n) w stays = (stays.0, by returns (is_leaving last w) stays.1 (λ others v h. fewer_return high return_high others n v h))
@@ -191,7 +192,8 @@ module _ (rings : RingLaws) (code : List ℕ) (last data_start : ℕ) where
       next = advanced w.stop open_storage data_start w
 
       by : (returns : List MachineReturn) (b : Bool) →
-          WhichHolds b (LeftWithin high return_high next × HoldsBack code returns next (λ others v. StaysReturning high return_high code last data_start others (suc n) v)) (StaysReturning high return_high code last data_start returns (suc n) next) →
+          WhichHolds b (LeftWithin high return_high next × HoldsBack code returns next (λ others v. StaysReturning high return_high code last data_start others (suc n) v))
+          (StaysReturning high return_high code last data_start returns (suc n) next) →
           ((others : List MachineReturn) (v : OpenConfiguration) → StaysReturning high return_high code last data_start others (suc n) v → StaysReturning high return_high code last data_start others n v) →
           WhichHolds b (LeftWithin high return_high next × HoldsBack code returns next (λ others v. StaysReturning high return_high code last data_start others n v)) (StaysReturning high return_high code last data_start returns n next)
       by returns false h later = later returns next h
@@ -212,8 +214,10 @@ module _ (rings : RingLaws) (code : List ℕ) (last data_start : ℕ) where
       next = advanced w.stop open_storage data_start w
 
       by : (returns : List MachineReturn) (b : Bool) →
-          WhichHolds b (LeftWithin high return_high next × HoldsBack code returns next (λ others v. StaysReturning high return_high code last data_start others (suc n) v)) (StaysReturning high return_high code last data_start returns (suc n) next) →
-          ((others : List MachineReturn) (v : OpenConfiguration) → StaysReturning high return_high code last data_start others (suc n) v → DepthStaysWithin high (opened others n v).data_depth × DepthStaysWithin return_high (opened others n v).return_depth) →
+          WhichHolds b (LeftWithin high return_high next × HoldsBack code returns next (λ others v. StaysReturning high return_high code last data_start others (suc n) v))
+          (StaysReturning high return_high code last data_start returns (suc n) next) →
+          ((others : List MachineReturn) (v : OpenConfiguration) → StaysReturning high return_high code last data_start others (suc n) v →
+          DepthStaysWithin high (opened others n v).data_depth × DepthStaysWithin return_high (opened others n v).return_depth) →
           DepthStaysWithin high (if b then goes_back (machine_back code) returns next (λ others v. opened others n v) else opened returns n next).data_depth
           × DepthStaysWithin return_high (if b then goes_back (machine_back code) returns next (λ others v. opened others n v) else opened returns n next).return_depth
       by returns false h later = later returns next h

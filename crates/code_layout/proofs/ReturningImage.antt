@@ -1,5 +1,6 @@
 -- Images whose GO comes back do what their source means, and no more.
-use Rattle.std.proofs.Common.{◌≡◌, ℕ, zero, suc, ◌+◌, ◌-◌, ◌/◌, ◌<◌, ◌≤◌, ◌==◌, ◌&&◌, Bool, true, false, List, [], ◌∷◌, ◌++◌, length, replicate, slice_index, slice_set, Some, None, refl, sym, ap, ◌∙◌, subst, append_assoc, append-nil, length-append, arith}
+use Rattle.std.proofs.Common.{◌≡◌, ℕ, zero, suc, ◌+◌, ◌-◌, ◌/◌, ◌<◌, ◌≤◌, ◌==◌, ◌&&◌, Bool, true, false, List, []}
+use Rattle.std.proofs.Common.{◌∷◌, ◌++◌, length, replicate, slice_index, slice_set, Some, None, refl, sym, ap, ◌∙◌, subst, append_assoc, append-nil, length-append, arith}
 use Rattle.std.specs.Prelude.{if◌then◌else◌}
 use Rattle.std.specs.List.{All}
 use Rattle.std.proofs.lemmas.Bool.Decides.{nat_tests}
@@ -24,7 +25,8 @@ use Rattle.code_layout.specs.Layout.{Definition, branch_to, return_cell, go_cell
 use Rattle.code_layout.specs.Built.{IsBuilt}
 use Rattle.code_layout.specs.Library.{IsLibrary, LibraryMeans}
 use Rattle.code_layout.specs.Agreement.{AreBytes, code_of, Shows, word_steps}
-use Rattle.code_layout.specs.Returning.{MachineReturn, backs_of, machine_back, goes_back, is_running, is_leaving, run_returning, returning_run, StaysReturning, IsSafeReturning, StacksFitReturning, ForwardReturning, BackwardReturning, StacksReturning, ImagesReturn}
+use Rattle.code_layout.specs.Returning.{MachineReturn, backs_of, machine_back, goes_back, is_running, is_leaving, run_returning}
+use Rattle.code_layout.specs.Returning.{returning_run, StaysReturning, IsSafeReturning, StacksFitReturning, ForwardReturning, BackwardReturning, StacksReturning, ImagesReturn}
 use Rattle.code_layout.proofs.Machine.{Laws, narrower}
 use Rattle.code_layout.proofs.Work.{ahead, ahead_bound, loops_before, Meets}
 use Rattle.code_layout.proofs.Steps.{AllStand}
@@ -67,7 +69,7 @@ module _ (grows : OnlyGrows open_storage) (code : List ℕ) (last data_start : �
 
   -- one instruction, and what follows it
   step_is : (returns : List MachineReturn) (n : ℕ) (w : OpenConfiguration) → returning returns (suc n) w
-      ≡ (if is_leaving last w then goes_back (machine_back code) returns (next w) (λ others v. run_returning open_storage (machine_back code) last data_start others n v) else run_returning open_storage (machine_back code) last data_start returns n (next w))
+      ≡ (if is_leaving last w then goes_back (machine_back code) returns (next w) (λ others v. returning others n v) else returning returns n (next w))
   unfolding run_returning
   step_is returns n w = refl
 
@@ -80,7 +82,7 @@ module _ (grows : OnlyGrows open_storage) (code : List ℕ) (last data_start : �
   prints_grow returns (suc n) w = subst (λ u. IsPrefixOf w.printed u.printed) (sym (step_is returns n w)) (by returns (is_leaving last w) (λ others v. prints_grow others n v))
     where
       by : (returns : List MachineReturn) (b : Bool) → ((others : List MachineReturn) (v : OpenConfiguration) → IsPrefixOf v.printed (returning others n v).printed) →
-          IsPrefixOf w.printed (if b then goes_back (machine_back code) returns (next w) (λ others v. run_returning open_storage (machine_back code) last data_start others n v) else run_returning open_storage (machine_back code) last data_start returns n (next w)).printed
+          IsPrefixOf w.printed (if b then goes_back (machine_back code) returns (next w) (λ others v. returning others n v) else returning returns n (next w)).printed
       by returns false later = prefix_then w.printed (next w).printed (returning returns n (next w)).printed (one_more w) (later returns (next w))
       by [] true later = one_more w
       by (r ∷ returns) true later =
@@ -95,12 +97,12 @@ module _ (grows : OnlyGrows open_storage) (code : List ℕ) (last data_start : �
       subst (λ u. IsPrefixOf u.printed (returning returns (suc n) w).printed) (sym (step_is returns m w))
       (subst
       (λ u.
-      IsPrefixOf (if is_leaving last w then goes_back (machine_back code) returns (next w) (λ others v. run_returning open_storage (machine_back code) last data_start others m v) else run_returning open_storage (machine_back code) last data_start returns m (next w)).printed
+      IsPrefixOf (if is_leaving last w then goes_back (machine_back code) returns (next w) (λ others v. returning others m v) else returning returns m (next w)).printed
       u.printed) (sym (step_is returns n w)) (by returns (is_leaving last w) (λ others v. prints_between others m n v (omega arith))))
     where
       by : (returns : List MachineReturn) (b : Bool) → ((others : List MachineReturn) (v : OpenConfiguration) → IsPrefixOf (returning others m v).printed (returning others n v).printed) →
-          IsPrefixOf (if b then goes_back (machine_back code) returns (next w) (λ others v. run_returning open_storage (machine_back code) last data_start others m v) else run_returning open_storage (machine_back code) last data_start returns m (next w)).printed
-          (if b then goes_back (machine_back code) returns (next w) (λ others v. run_returning open_storage (machine_back code) last data_start others n v) else run_returning open_storage (machine_back code) last data_start returns n (next w)).printed
+          IsPrefixOf (if b then goes_back (machine_back code) returns (next w) (λ others v. returning others m v) else returning returns m (next w)).printed
+          (if b then goes_back (machine_back code) returns (next w) (λ others v. returning others n v) else returning returns n (next w)).printed
       by returns false later = later returns (next w)
       by [] true later = ([], append-nil (next w).printed)
       by (r ∷ returns) true later = later returns (machine_back code r (next w))
@@ -111,8 +113,8 @@ module _ (grows : OnlyGrows open_storage) (code : List ℕ) (last data_start : �
       step_is returns n w
       ∙ ap
       (λ st.
-      if is_running st && (w.core.pc == last) then goes_back (machine_back code) returns (next w) (λ others v. run_returning open_storage (machine_back code) last data_start others n v)
-      else run_returning open_storage (machine_back code) last data_start returns n (advanced st open_storage data_start w)) e
+      if is_running st && (w.core.pc == last) then goes_back (machine_back code) returns (next w) (λ others v. returning others n v)
+      else returning returns n (advanced st open_storage data_start w)) e
       ∙ stopped returns n w stop e
 
   pub ends_between : (returns : List MachineReturn) (m n : ℕ) (w : OpenConfiguration) (stop : Stop) → m ≤ n → (returning returns m w).stop ≡ Some stop → returning returns n w ≡ returning returns m w
@@ -122,9 +124,9 @@ module _ (grows : OnlyGrows open_storage) (code : List ℕ) (last data_start : �
       step_is returns n w ∙ by returns (is_leaving last w) (λ others v q. ends_between others m n v stop (omega arith) q) (ap (λ u. u.stop) (sym (step_is returns m w)) ∙ e) ∙ sym (step_is returns m w)
     where
       by : (returns : List MachineReturn) (b : Bool) → ((others : List MachineReturn) (v : OpenConfiguration) → (returning others m v).stop ≡ Some stop → returning others n v ≡ returning others m v) →
-          (if b then goes_back (machine_back code) returns (next w) (λ others v. run_returning open_storage (machine_back code) last data_start others m v) else run_returning open_storage (machine_back code) last data_start returns m (next w)).stop ≡ Some stop →
-          (if b then goes_back (machine_back code) returns (next w) (λ others v. run_returning open_storage (machine_back code) last data_start others n v) else run_returning open_storage (machine_back code) last data_start returns n (next w))
-          ≡ (if b then goes_back (machine_back code) returns (next w) (λ others v. run_returning open_storage (machine_back code) last data_start others m v) else run_returning open_storage (machine_back code) last data_start returns m (next w))
+          (if b then goes_back (machine_back code) returns (next w) (λ others v. returning others m v) else returning returns m (next w)).stop ≡ Some stop →
+          (if b then goes_back (machine_back code) returns (next w) (λ others v. returning others n v) else returning returns n (next w))
+          ≡ (if b then goes_back (machine_back code) returns (next w) (λ others v. returning others m v) else returning returns m (next w))
       by returns false later q = later returns (next w) q
       by [] true later q = refl
       by (r ∷ returns) true later q = later returns (machine_back code r (next w)) q
@@ -381,7 +383,8 @@ module _ (laws : Laws) (only : OnlyGoLeaves) (library : List Nodes) (p : SourceP
   fits_back k high return_high fit = fit
 
   -- from the call of MAIN on
-  main_stays : (n k : ℕ) (b : Main k) (o : Outcome) → steps_back p (backs_of returns) k (first_state p input) ≡ o → (end_of o ≡ None → n < suc b.count) → (high return_high : ℕ) → StacksFitReturning p (backs_of returns) input high return_high k →
+  main_stays : (n k : ℕ) (b : Main k) (o : Outcome) → steps_back p (backs_of returns) k (first_state p input) ≡ o → (end_of o ≡ None → n < suc b.count) → (high return_high : ℕ) →
+      StacksFitReturning p (backs_of returns) input high return_high k →
       Patched high return_high n main
   main_stays n k b (Goes s) e far high return_high fit =
       let lt = far refl in

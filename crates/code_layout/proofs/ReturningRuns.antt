@@ -1,5 +1,6 @@
 -- Runs whose GO comes back, from where a state stands, on code with another cell in place of the return that ends the code of GO.
-use Rattle.std.proofs.Common.{◌≡◌, ℕ, zero, suc, ◌+◌, ◌-◌, ◌*◌, ◌/◌, ◌%◌, ◌<◌, ◌≤◌, ◌==◌, inl, inr, ⊎_elim, Bool, true, false, List, [], ◌∷◌, ◌++◌, length, slice_index, slice_set, Option, Some, None, refl, sym, ap, ◌∙◌, subst, length-append, arith, add-mul}
+use Rattle.std.proofs.Common.{◌≡◌, ℕ, zero, suc, ◌+◌, ◌-◌, ◌*◌, ◌/◌, ◌%◌, ◌<◌, ◌≤◌, ◌==◌, inl, inr, ⊎_elim, Bool, true, false}
+use Rattle.std.proofs.Common.{List, [], ◌∷◌, ◌++◌, length, slice_index, slice_set, Option, Some, None, refl, sym, ap, ◌∙◌, subst, length-append, arith, add-mul}
 use Rattle.std.specs.Prelude.{◌&&◌, if◌then◌else◌}
 use Rattle.std.specs.List.{All}
 use Rattle.std.proofs.lemmas.List.Elements.{All-head, All-tail}
@@ -348,7 +349,9 @@ module _ (laws : Laws) (only : OnlyGoLeaves) (p : SourceProgram) (patches : Patc
             stays = λ end n q.
                 sym (moves returns (c + n) u v elsewhere leads) ∙ ap (λ n. patched returns n u) (more c n) ∙ ap (λ m. patched returns (m + n) u) (sym e) ∙ b.stays end n q
                 ∙ ap (λ n. patched returns n u) e ∙ moves returns c u v elsewhere leads;
-            stacks = λ high return_high fit. one_less_stays code code' last p.data_start below mends last_inside high return_high returns c u v elsewhere leads (subst (λ n. Stays high return_high returns n u) e (b.stacks high return_high fit));
+            stacks = λ high return_high fit.
+                one_less_stays code code' last p.data_start below mends last_inside high return_high returns c u v elsewhere leads
+                (subst (λ n. Stays high return_high returns n u) e (b.stacks high return_high fit));
             stacks_ended = λ high return_high end n fit q.
                 one_less_stays code code' last p.data_start below mends last_inside high return_high returns (c + n) u v elsewhere leads
                 (subst (λ m. Stays high return_high returns m u) (let f : b.count + n ≡ suc (c + n) = omega (arith, e) in f) (b.stacks_ended high return_high end n fit q));
