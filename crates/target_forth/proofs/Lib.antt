@@ -1,5 +1,6 @@
 mod KernelItems
 pub mod ReadText
+pub mod FirstHere
 pub mod Images
 pub mod Drives
 pub mod Names

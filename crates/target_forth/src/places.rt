@@ -5,6 +5,7 @@ ghost use Rattle.kernel_words.specs.Laws.{CellsAreLaid, HeadersAreMade, ListIsLo
 ghost use Rattle.target_forth.specs.Kernel.{kernel_program};
 ghost use Rattle.target_forth.specs.Places.{places_of_kernel, StandApart, HasNames};
 
+use control_flow::texts_end_in_sources;
 use kernel_words::kernel_words_keep_their_laws;
 
 /// Byte addresses in the kernel's data space: of the line that was typed last, a buffer of 80 bytes; of the word read last as a counted string, a
@@ -19,7 +20,8 @@ pub struct KernelPlaces {
 }
 
 /// Where the kernel keeps its line, its word and its headers. Over these places its definitions `K-WORD`, `K-NUMBER`, `K-FIND`, `K-CELL` and
-/// `K-HEADER` do what the laws of `kernel_words` say of each program that has them, as that of the kernel's text has.
+/// `K-HEADER` do what the laws of `kernel_words` say of each program that has them, as that of the kernel's text has. The places lie below the
+/// first HERE, from which on typed definitions lie.
 pub fn kernel_places() -> KernelPlaces
     ensures places { result ≡ places_of_kernel }
     ensures apart { StandApart result }
@@ -33,6 +35,7 @@ pub fn kernel_places() -> KernelPlaces
     ensures header { HeadersAreMade }
     ensures list { ListIsLonger }
 {
+    texts_end_in_sources();
     kernel_words_keep_their_laws();
     KernelPlaces {
         line: 8320,
