@@ -1,0 +1,6 @@
+pub mod Instructions
+pub mod Memory
+pub mod Joins
+pub mod Loading
+pub mod Saving
+pub mod Running

@@ -1,0 +1,3 @@
+pub mod MachineCode
+pub mod Standing
+pub mod Laws

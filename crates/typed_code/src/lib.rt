@@ -1,0 +1,10 @@
+//! Laws, with no code, of the machine code that the kernel of the interactive Forth has around a typed word: it puts the user's cells
+//! onto the data stack, calls the word, and takes the cells back into memory.
+//!
+//! They hold on the open machine of `j1_simulator`, from each memory that has this code at its places. Each law is a function with an
+//! empty body.
+#![tactic(auto)]
+
+mod laws;
+
+pub use laws::{a_typed_word_comes_back, cells_are_loaded, cells_are_saved};
