@@ -18,7 +18,7 @@ use Rattle.word_laws.specs.Rings.{KnownWithin, WritesAbove, writes_return}
 use Rattle.word_laws.specs.Standing.{data_places, standing, machine_at}
 use Rattle.typed_code.specs.Standing.{Surroundings, world_in, stands_at, called_from, place_of, Comes}
 
-height_le : (h h' : ℕ) (cells : List (Option ℕ)) → h ≤ h' → KnownWithin h cells → KnownWithin h' cells
+pub height_le : (h h' : ℕ) (cells : List (Option ℕ)) → h ≤ h' → KnownWithin h cells → KnownWithin h' cells
 height_le h zero [] le k = tt
 height_le h (suc h') [] le k = tt
 height_le zero zero (c ∷ cells) le k = k
@@ -31,7 +31,7 @@ height_places [] = (refl, tt)
 height_places (x ∷ []) = (refl, tt)
 height_places (x ∷ y ∷ c) = height_places (y ∷ c)
 
-height_length : (r : List (Option ℕ)) → KnownWithin (length r) r
+pub height_length : (r : List (Option ℕ)) → KnownWithin (length r) r
 height_length [] = tt
 height_length (x ∷ r) = height_length r
 
@@ -41,7 +41,7 @@ still n = ap pos (omega arith)
 up_one : (n : ℕ) → pos n +ℤ pos 1 ≡ pos (suc n)
 up_one n = ap pos (omega arith)
 
-down_one : (n : ℕ) → pos (suc n) +ℤ negsuc 0 ≡ pos n
+pub down_one : (n : ℕ) → pos (suc n) +ℤ negsuc 0 ≡ pos n
 down_one n =
     ⊎_elim (λ t. absurd (omega (arith, t.1))) (λ t. ap (λ x. cond x (negsuc (1 - suc (suc n))) (pos (suc n - 1))) t.0 ∙ ap pos (omega arith)) (leb_tells (suc (suc n)) 1)
 

@@ -4,3 +4,5 @@ pub mod Joins
 pub mod Loading
 pub mod Saving
 pub mod Running
+pub mod WayBack
+pub mod OnChip

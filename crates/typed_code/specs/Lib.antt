@@ -1,3 +1,4 @@
 pub mod MachineCode
 pub mod Standing
 pub mod Laws
+pub mod WayBack
