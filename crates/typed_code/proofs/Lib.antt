@@ -6,3 +6,4 @@ pub mod Saving
 pub mod Running
 pub mod WayBack
 pub mod OnChip
+pub mod Whole

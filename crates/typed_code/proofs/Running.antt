@@ -1,15 +1,31 @@
 -- RUN-CODE, and a typed word as a whole.
-use Rattle.std.proofs.Common.{◌≡◌, ℕ, ◌+◌, ◌*◌, ◌%◌, ◌≤◌, List, [], ◌∷◌, length, Some, pos, refl, ap, subst, arith}
+use Rattle.std.proofs.Common.{◌≡◌, ℕ, ◌+◌, ◌-◌, ◌*◌, ◌%◌, ◌<◌, ◌≤◌, nat_lt, true, false, List, [], ◌∷◌, length, slice_index, Some, pos, refl, ap, ◌∙◌, subst, arith}
 use Rattle.std.specs.Prelude.{slice_set}
+use Rattle.std.proofs.lemmas.Bool.{lt-ltb, le-ltb}
+use Rattle.j1_table.specs.declared.instr.Instr.TheVariants.{Jump, Call}
+use Rattle.j1_table.specs.Instruction.{decoded}
+use Rattle.j1_simulator.specs.Effect.{following}
 use Rattle.j1_simulator.specs.RoundMachine.{around}
 use Rattle.typed_code.specs.MachineCode.{return_base, load, save, run_code, run_call, run_code_code, HasMachineCode, HasUserCells, saved, with_return_base}
 use Rattle.typed_code.specs.Standing.{Surroundings, stands_at, called_from, place_of, Comes, Leads}
-use Rattle.typed_code.specs.Laws.{LoadPutsCells, RunCodeLoads, SavePutsBack, TypedWordsComeBack}
+use Rattle.typed_code.specs.Laws.{LoadPutsCells, RunCodeLoads, SavePutsBack, TypedWordsComeBack, JumpsLead, CallsLeadBehind}
 use Rattle.typed_code.proofs.Instructions.{literal, depth, drop, store, jump, call}
 use Rattle.typed_code.proofs.Memory.{instruction, code_kept, base_kept}
 use Rattle.typed_code.proofs.Joins.{Laws, recount, joined}
 use Rattle.typed_code.proofs.Loading.{loads}
 use Rattle.typed_code.proofs.Saving.{saves}
+
+jump_is : (target : ℕ) → target < 0x2000 → decoded target ≡ Jump target
+jump_is target below = rw (lt-ltb target 0x2000 below) refl
+
+-- the instruction of a cell from 0x4000 on
+call_is : (target : ℕ) → target < 0x2000 → decoded (0x4000 + target) ≡ Call target
+call_is target below =
+    let a : nat_lt (0x4000 + target) 0x2000 ≡ false = le-ltb (0x4000 + target) 0x2000 (omega arith) in
+    let b : nat_lt (0x4000 + target) 0x4000 ≡ false = le-ltb (0x4000 + target) 0x4000 (omega arith) in
+    let c : nat_lt (0x4000 + target) 0x6000 ≡ true = lt-ltb (0x4000 + target) 0x6000 (omega arith) in
+    let d : (0x4000 + target) - 0x4000 ≡ target = omega arith in
+    rw (a, b, c, d) refl
 
 module _ (laws : Laws) where
   runs_load : (high return_high : ℕ) (memory c : List ℕ) (s : Surroundings) → HasMachineCode memory → HasUserCells memory c → length c ≤ 31 → length c + 3 ≤ high → length s.returns + 1 ≤ return_high →
@@ -54,3 +70,15 @@ module _ (laws : Laws) where
       joined laws k (1 + (12 * m + 13)) (word da ra) (λ da ra.
       joined laws 1 (12 * m + 13) (jump memory' (called_from address after) high return_high (omega arith) (run_call + 1) save d da ra (instruction memory' (save ∷ []) (run_call + 1) has'.behind_call 0 refl) (omega arith)) (λ da ra.
       saves laws high return_high memory' has' d address after (omega arith) small' within' da ra))))
+
+  pub calls_lead_behind : CallsLeadBehind
+  calls_lead_behind place target k high return_high memory c memory' d s s' cell below behind deep under routine da ra =
+      let next : following place ≡ place + 1 = omega arith in
+      let has : decoded (slice_index memory place) ≡ Call target = ap decoded cell ∙ call_is target below in
+      let to = call memory s high return_high under place target c da ra has deep in
+      let first = subst (λ n. Comes 1 high return_high (stands_at place c memory s da ra) target c memory (called_from (2 * n) s) []) next to in
+      let all = joined laws 1 k first routine in
+      record { data_above = all.data_above; return_above = Some (2 * (place + 1)) ∷ all.return_above; makes = all.makes; bounds = all.bounds }
+
+pub jumps_lead : JumpsLead
+jumps_lead place target high return_high memory c s cell below deep under da ra = jump memory s high return_high under place target c da ra (ap decoded cell ∙ jump_is target below) deep

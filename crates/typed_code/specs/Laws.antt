@@ -44,6 +44,20 @@ TypedWordsComeBack =
     Leads (29 + 13 * length c + 12 * length d + k) high return_high run_code [] memory (called_from address s) (place_of address) [] (saved d memory')
     (record s { input = input; printed = printed }) (Some address ∷ [])
 
+-- a jump leads to its place, as that of an execution token does
+abbrev pub JumpsLead : Type 0
+JumpsLead =
+    (place target high return_high : ℕ) (memory c : List ℕ) (s : Surroundings) → slice_index memory place ≡ target → target < 0x2000 → length c ≤ high →
+    length s.returns ≤ return_high → Leads 1 high return_high place c memory s target c memory s []
+
+-- and a call of a routine that comes back leads to the cell behind it, with what the routine leaves: so the call at RUN-CALL does
+abbrev pub CallsLeadBehind : Type 0
+CallsLeadBehind =
+    (place target k high return_high : ℕ) (memory c memory' d : List ℕ) (s s' : Surroundings) → slice_index memory place ≡ 0x4000 + target → target < 0x2000 →
+    place + 1 < 0x2000 → length c ≤ high → length s.returns ≤ return_high →
+    Leads k high return_high target c memory (called_from (2 * (place + 1)) s) (place + 1) d memory' s' (Some (2 * (place + 1)) ∷ []) →
+    Leads (1 + k) high return_high place c memory s (place + 1) d memory' s' []
+
 -- where memory is code and data space, the machine stands as it does where a source stands
 abbrev pub StandsAlike : Type 0
 StandsAlike =

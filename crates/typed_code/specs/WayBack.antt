@@ -1,5 +1,5 @@
 -- The way back to the code before data space that has called by GO: what comes back there, on the open machine and on the chip.
-use Rattle.std.specs.Prelude.{ℕ, ◌+◌, ◌≤◌, ◌≡◌, List, [], ◌∷◌, ◌++◌, length, map, Option, Some}
+use Rattle.std.specs.Prelude.{ℕ, suc, ◌+◌, ◌*◌, ◌≤◌, ◌≡◌, List, [], ◌∷◌, ◌++◌, length, map, Option, Some}
 use Rattle.j1_simulator.specs.OpenMachine.{open_storage}
 use Rattle.j1_simulator.specs.RoundMachine.{round_storage}
 use Rattle.j1_simulator.specs.Run.{run}
@@ -9,7 +9,7 @@ use Rattle.word_laws.specs.Rings.{OpenConfiguration, BeforeEach, Agrees}
 use Rattle.word_laws.specs.Bounds.{StaysWithin}
 use Rattle.code_layout.specs.Returning.{machine_back}
 use Rattle.code_layout.specs.ReturningChip.{RoundConfiguration, RoundReturn, AreRings, round_back}
-use Rattle.typed_code.specs.MachineCode.{saved}
+use Rattle.typed_code.specs.MachineCode.{run_code, run_call, HasMachineCode, HasUserCells, saved, with_return_base}
 use Rattle.typed_code.specs.Standing.{Surroundings, stands_at, called_from, place_of, Leads}
 
 -- a data space, the input left, and what was printed meanwhile
@@ -60,3 +60,16 @@ pub record KeepsCode (code space c : List ℕ) : Type 0 where
 
 abbrev pub SavedKeepsCode : Type 0
 SavedKeepsCode = (code space c : List ℕ) → length code ≡ 0x1000 → length c ≤ 31 → KeepsCode code space c
+
+-- so is a typed word as a whole, on the chip: RUN-CODE, reached by GO with the code before data space and no data cell, puts the user's cells onto
+-- the data stack; the word comes from RUN-CALL to the cell behind it in k instructions; and what comes back is the data space that the word has
+-- left, with the cells that it has left as the user's, its input, and what it has printed
+abbrev pub TypedWordsGoBackOnChip : Type 0
+TypedWordsGoBackOnChip =
+    (code space c space' d input printed addresses : List ℕ) (address k high return_high : ℕ) (s : Surroundings) (data_above return_above : List (Option ℕ)) (chip : RoundConfiguration) →
+    length code ≡ 0x1000 → HasMachineCode (code ++ space) → HasUserCells (code ++ space) c → length c ≤ 31 → HasMachineCode (code ++ space') → length d ≤ 31 →
+    length c + 3 ≤ high → length d + 2 ≤ high → high ≤ 33 → length s.returns + 2 ≤ return_high → return_high ≤ 32 → s.returns ≡ map Some addresses →
+    Leads k high return_high run_call c (with_return_base (suc (length s.returns)) (code ++ space)) (called_from address s) (run_call + 1) d (code ++ space')
+    (called_from address (record s { input = input; printed = s.printed ++ printed })) [] →
+    Agrees (stands_at run_code [] (code ++ space) (called_from address s) data_above return_above) chip →
+    (kept : KeepsCode code space' d) × GoesBackOnChip (29 + 13 * length c + 12 * length d + k) code (given_back kept.after input printed) chip

@@ -1,5 +1,5 @@
 // What the machine code around a typed word does.
-ghost use Rattle.typed_code.specs.Laws.{LoadPutsCells, RunCodeLoads, SavePutsBack, SavedIsKept, TypedWordsComeBack, StandsAlike};
+ghost use Rattle.typed_code.specs.Laws.{LoadPutsCells, RunCodeLoads, SavePutsBack, SavedIsKept, TypedWordsComeBack, JumpsLead, CallsLeadBehind, StandsAlike};
 
 use word_laws::runs_join;
 
@@ -25,6 +25,14 @@ pub fn cells_are_saved()
 pub fn a_typed_word_comes_back()
     ensures comes_back { TypedWordsComeBack }
     ensures alike { StandsAlike }
+{
+    runs_join();
+}
+
+/// A jump leads to its place, and a call of what comes back to the cell behind it, wherever they stand in memory.
+pub fn calls_lead_behind()
+    ensures jump { JumpsLead }
+    ensures call { CallsLeadBehind }
 {
     runs_join();
 }

@@ -8,5 +8,5 @@
 mod laws;
 mod way_back;
 
-pub use laws::{a_typed_word_comes_back, cells_are_loaded, cells_are_saved};
-pub use way_back::{returns_go_back, saved_cells_keep_code};
+pub use laws::{a_typed_word_comes_back, calls_lead_behind, cells_are_loaded, cells_are_saved};
+pub use way_back::{returns_go_back, saved_cells_keep_code, typed_words_go_back};

@@ -1,6 +1,7 @@
 // What comes back to the code that has called by GO.
-ghost use Rattle.typed_code.specs.WayBack.{ReturnsGoBack, ReturnsGoBackOnChip, SavedKeepsCode};
+ghost use Rattle.typed_code.specs.WayBack.{ReturnsGoBack, ReturnsGoBackOnChip, SavedKeepsCode, TypedWordsGoBackOnChip};
 
+use crate::laws::a_typed_word_comes_back;
 use word_laws::{rings_do_the_same, rings_keep_places, runs_join};
 
 /// What takes no data cells, leaves none and comes to its return address, as RUN-CODE does, is a return behind `GO`: on the open
@@ -19,3 +20,13 @@ pub fn returns_go_back()
 pub fn saved_cells_keep_code()
     ensures { SavedKeepsCode }
 {}
+
+/// On the chip a typed word as a whole, from RUN-CODE on, is a return behind `GO` that keeps the places of the kernel's live cells, where the
+/// word comes from RUN-CALL to the cell behind it within the rings.
+pub fn typed_words_go_back()
+    ensures { TypedWordsGoBackOnChip }
+{
+    a_typed_word_comes_back();
+    returns_go_back();
+    saved_cells_keep_code();
+}
