@@ -1,6 +1,7 @@
 mod KernelItems
 pub mod ReadText
 pub mod FirstHere
+pub mod CodeCells
 pub mod Images
 pub mod Drives
 pub mod Names

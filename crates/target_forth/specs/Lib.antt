@@ -4,3 +4,4 @@ pub mod Session
 pub mod Replies
 pub mod Places
 pub mod Behind
+pub mod MachineCode
