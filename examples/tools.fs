@@ -1,5 +1,5 @@
 ( Words for the prompt:  cat examples/tools.fs - | ./j1 forth ) QUIT
-( Each line ends with QUIT, which has no reply, so that loading is silent. ) QUIT
+( Each line ends with QUIT, which has no reply: loading prints nothing. ) QUIT
 : \ SOURCE >IN ! DROP ; IMMEDIATE QUIT
 ( Cells and flags. ) QUIT
 : NIP SWAP DROP ; : TUCK SWAP OVER ; : <> = 0= ; : 0<> 0= 0= ; QUIT
