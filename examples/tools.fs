@@ -5,7 +5,7 @@
 : NIP SWAP DROP ; : TUCK SWAP OVER ; : <> = 0= ; : 0<> 0= 0= ; QUIT
 : 0> 0 > ; : U> SWAP U< ; -1 CONSTANT TRUE 0 CONSTANT FALSE QUIT
 : WITHIN ( u a b -- flag ) OVER - >R - R> U< ; QUIT
-: HEX 16 BASE ! ; : ? ( a -- ) @ . ; : ERASE ( a u -- ) 0 FILL ; QUIT
+: HEX 16 BASE ! ; : ERASE ( a u -- ) 0 FILL ; QUIT
 : .( [CHAR] ) WORD COUNT TYPE ; IMMEDIATE QUIT
 : .R ( n u -- ) >R DUP ABS 0 <# #S ROT SIGN #> R> OVER - SPACES TYPE ; QUIT
 : U.R ( u u -- ) >R 0 <# #S #> R> OVER - SPACES TYPE ; QUIT
@@ -26,12 +26,6 @@
 : COLUMN DUP 4 + C@ ROT + 1+ DUP 64 > IF CR DROP 0 THEN SWAP ; QUIT
 : WORDS 0 8404 @ BEGIN DUP WHILE COLUMN DUP .NAME @ REPEAT 2DROP ; QUIT
 : MARKER 8404 @ HERE CREATE , , DOES> DUP CELL+ @ 8404 ! @ HERE - ALLOT ; QUIT
-( Bytes in hexadecimal, 16 in a row behind their address. ) QUIT
-: .BYTE ( c -- ) 0 <# # # #> TYPE SPACE ; QUIT
-: .ROW ( a -- ) CR 0 <# # # # # #> TYPE SPACE ; QUIT
-: .AT ( a u -- ) DUP 15 AND 0= IF 2DUP + .ROW THEN + C@ .BYTE ; QUIT
-: .BYTES ( a u -- ) 0 DO DUP I .AT LOOP DROP ; QUIT
-: DUMP ( a u -- ) BASE @ >R HEX ?DUP IF .BYTES ELSE DROP THEN R> BASE ! ; QUIT
 ( Structures. At 8636 are the LEAVEs of the loop that is open. ) QUIT
 : AGAIN 0 POSTPONE LITERAL POSTPONE UNTIL ; IMMEDIATE QUIT
 : NO-TURN POSTPONE 2DUP POSTPONE = POSTPONE IF POSTPONE >R POSTPONE >R ; QUIT
@@ -47,9 +41,20 @@
 : TO BODY STATE @ IF POSTPONE LITERAL POSTPONE ! ELSE ! THEN ; IMMEDIATE QUIT
 : IS POSTPONE TO ; IMMEDIATE QUIT
 ( From here on these faults come back to the prompt, with ABORT. ) QUIT
+: NEED ( n -- ) DEPTH 1- > ABORT" too few cells" ; QUIT
 : DIVISOR ( n -- n ) DUP 0= ABORT" division by zero" ; QUIT
-: / DIVISOR / ; : MOD DIVISOR MOD ; : /MOD DIVISOR /MOD ; QUIT
-: */ DIVISOR */ ; : */MOD DIVISOR */MOD ; QUIT
+: / 2 NEED DIVISOR / ; : MOD 2 NEED DIVISOR MOD ; QUIT
+: /MOD 2 NEED DIVISOR /MOD ; QUIT
+: */ 3 NEED DIVISOR */ ; : */MOD 3 NEED DIVISOR */MOD ; QUIT
 : PLACE ( a -- a ) DUP 8192 - 8192 U< 0= ABORT" no such address" ; QUIT
-: @ PLACE @ ; : ! PLACE ! ; : C@ PLACE C@ ; : C! PLACE C! ; : +! PLACE +! ; QUIT
-.( Tools are loaded: WORDS names all, BYE leaves. )
+: @ 1 NEED PLACE @ ; : C@ 1 NEED PLACE C@ ; QUIT
+: ! 2 NEED PLACE ! ; : C! 2 NEED PLACE C! ; : +! 2 NEED PLACE +! ; QUIT
+: ? ( a -- ) @ . ; QUIT
+( Bytes in hexadecimal, 16 in a row behind their address. ) QUIT
+: .BYTE ( c -- ) 0 <# # # #> TYPE SPACE ; QUIT
+: .ROW ( a -- ) CR 0 <# # # # # #> TYPE SPACE ; QUIT
+: .AT ( a u -- ) DUP 15 AND 0= IF 2DUP + .ROW THEN + C@ .BYTE ; QUIT
+: .BYTES ( a u -- ) 0 DO DUP I .AT LOOP DROP ; QUIT
+: .ALL BASE @ >R HEX ?DUP IF .BYTES ELSE DROP THEN R> BASE ! ; QUIT
+: DUMP ( a u -- ) OVER C@ DROP 2DUP + 1- C@ DROP .ALL ; QUIT
+.( Tools are loaded: WORDS names all, BYE leaves.)
