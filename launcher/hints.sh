@@ -201,7 +201,8 @@ forward() {
 # program's line is kept until it ends, which is at once behind that line, and signals reach it as they would without this.
 run_with_hint() {
     # A shell makes what it starts in the background ignore two signals. Where that cannot be turned back, or the caller
-    # wants them ignored, there is no hint.
+    # wants them ignored, or there is no standard input, there is no hint.
+    (: <&0) 2>/dev/null || exec "$program" "$@"
     env --default-signal=INT,QUIT true 2>/dev/null || exec "$program" "$@"
     case $(sed -n 's/^SigIgn:.*\(.\)$/\1/p' "/proc/$$/status" 2>/dev/null) in [0189]) ;; *) exec "$program" "$@" ;; esac
     kept=$(mktemp) || exec "$program" "$@"
