@@ -20,6 +20,26 @@ impl Model for Depths {
     ghost view = { λ d. record { data_depth = d.of_data; return_depth = d.of_return } };
 }
 
+// The sum, where it is past an end of i64 perhaps: that end.
+#[cold]
+#[inline(never)]
+fn held_at_end(depth: i64, places: i8) -> i64
+    ensures { result ≡ held (depth +ℤ places) }
+{
+    depth.saturating_add(i64::from(places))
+}
+
+// The sum, held at the ends of i64.
+#[inline(always)]
+fn moved(depth: i64, places: i8) -> i64
+    ensures { result ≡ held (depth +ℤ places) }
+{
+    match depth.checked_add(i64::from(places)) {
+        Some(sum) => sum,
+        None => held_at_end(depth, places),
+    }
+}
+
 impl Depths {
     pub fn new() -> Depths
         ensures { result ≡ record { data_depth = pos 0; return_depth = pos 0 } }
@@ -47,7 +67,7 @@ impl Depths {
     pub fn count(&mut self, effect: Effect)
         ensures { self.new ≡ depths_after self.old effect }
     {
-        self.of_data = self.of_data.saturating_add(i64::from(effect.data_move));
-        self.of_return = self.of_return.saturating_add(i64::from(effect.return_move));
+        self.of_data = moved(self.of_data, effect.data_move);
+        self.of_return = moved(self.of_return, effect.return_move);
     }
 }

@@ -130,7 +130,6 @@ impl Machine {
     {
         let effect = self.cpu.effect_of(instr);
         self.cpu.pass(effect);
-        self.given = None;
         self.depths.count(effect);
         Event::Went
     }
