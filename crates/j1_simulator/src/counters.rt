@@ -20,10 +20,13 @@ impl Model for Depths {
     ghost view = { λ d. record { data_depth = d.of_data; return_depth = d.of_return } };
 }
 
-// The sum, where it is past an end of i64 perhaps: that end.
+// A depth from which one instruction does not come to the ends of i64.
+const FAR: i64 = 0x4000_0000;
+
+// The sum, held at the ends of i64, wherever the depth is.
 #[cold]
 #[inline(never)]
-fn held_at_end(depth: i64, places: i8) -> i64
+fn moved_far(depth: i64, places: i8) -> i64
     ensures { result ≡ held (depth +ℤ places) }
 {
     depth.saturating_add(i64::from(places))
@@ -34,9 +37,21 @@ fn held_at_end(depth: i64, places: i8) -> i64
 fn moved(depth: i64, places: i8) -> i64
     ensures { result ≡ held (depth +ℤ places) }
 {
-    match depth.checked_add(i64::from(places)) {
-        Some(sum) => sum,
-        None => held_at_end(depth, places),
+    if -FAR < depth && depth < FAR {
+        depth + i64::from(places)
+    } else {
+        moved_far(depth, places)
+    }
+}
+
+// Moves a depth by these places, where there are some.
+#[inline(always)]
+fn change(depth: &mut i64, places: i8)
+    ensures { depth.new ≡ held (depth.old +ℤ places) }
+{
+    let before = *depth;
+    if places != 0 {
+        *depth = moved(before, places);
     }
 }
 
@@ -67,7 +82,7 @@ impl Depths {
     pub fn count(&mut self, effect: Effect)
         ensures { self.new ≡ depths_after self.old effect }
     {
-        self.of_data = moved(self.of_data, effect.data_move);
-        self.of_return = moved(self.of_return, effect.return_move);
+        change(&mut self.of_data, effect.data_move);
+        change(&mut self.of_return, effect.return_move);
     }
 }

@@ -39,12 +39,7 @@ fn move_at(code: u16) -> i8
     requires { code < 4 }
     ensures { result ≡ move_of code }
 {
-    match code {
-        0 => 0,
-        1 => 1,
-        2 => -2,
-        _ => -1,
-    }
+    (code as i8 ^ 2) - 2
 }
 
 impl AluWord {
