@@ -20,7 +20,7 @@ impl Model for Depths {
     ghost view = { λ d. record { data_depth = d.of_data; return_depth = d.of_return } };
 }
 
-// A depth from which one instruction does not come to the ends of i64.
+// Short of this depth, either way, no instruction comes to the ends of i64.
 const FAR: i64 = 0x4000_0000;
 
 // The sum, held at the ends of i64, wherever the depth is.

@@ -103,14 +103,14 @@ fn turn<C: Source, O: Sink>(
 /// Makes at most `n` instructions, with the input from `console` and what is printed going to `out`.
 ///
 /// The console is asked for one byte, and only where the next instruction takes one. What is printed waits in a buffer of
-/// 512 bytes, which is written out before each such question, when it is full, and at the end, wherever a byte waits: `out` is called
-/// at most once for each byte. Where the run has ended,
-/// now or before, the answer is its end at each `n`; `StepsUsed` comes exactly where it has not.
+/// 512 bytes, which is written out before each such question, when it is full, and at the end, but only where a byte waits: `out` is
+/// called at most once for each byte. Where the run has ended, now or before, the answer is its end at each `n`; `StepsUsed` comes
+/// exactly where it has not.
 ///
 /// An error comes only where the count of faults of `console` or of `out` rose. After `Read` the machine still wants its
 /// byte, and all that was printed has been written. After `Write` the machine and the console stand where that write was
-/// due, and `out` holds a beginning of what was printed: it lacks at most the 512 bytes that were written last, of which none
-/// had been printed when the console was last asked.
+/// due, and `out` holds a beginning of what was printed: it lacks at most the 512 bytes that were written last, of which there is
+/// at least one, and none had been printed when the console was last asked.
 ///
 /// The input of the run is the byte given by hand, where there is one that is not yet used, and then the bytes of the console;
 /// where it was told by hand that there is none left, it is empty, and the console is left alone. The clauses `run`, `read`

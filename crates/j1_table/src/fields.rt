@@ -34,7 +34,7 @@ impl Model for AluWord {
     ghost inverse = { λ n. record { bits = n } };
 }
 
-// The move of a two-bit code.
+// The move of a two-bit code, which is its two's complement.
 fn move_at(code: u16) -> i8
     requires { code < 4 }
     ensures { result ≡ move_of code }

@@ -124,7 +124,7 @@ pub record LeftAfter (image : Content) (bytes : List ℕ) (steps : ℕ) (status 
   pub made : ℕ
   pub leaves : DriveLeaves image bytes steps made status (Some []) before now
   pub stop_is : option_map By end ≡ (round_run image bytes made).stop
-  pub writes : writes_now ≤ writes + length (round_run image bytes made).printed
+  pub few : writes_now ≤ writes + length (round_run image bytes made).printed
 
 left_after : OnlyGrows round_storage →
     (image : Content) (steps : ℕ) (after : MachineState) (result : Result Finish DriveError) (left before_left before now : Option (List ℕ))
@@ -143,7 +143,7 @@ left_after grows image steps after (Ok (Ended end)) left before_left before now 
       made = steps;
       leaves = as_run image m.bytes steps (status_of (Some end)) (Some []) before now (end_is_answer (Some end)) at;
       stop_is = m.stands.ended ∙ ap (λ c. c.stop) (sym later);
-      writes = subst (λ c. writes_now ≤ writes + length c.printed) (sym later) m.writes;
+      few = subst (λ c. writes_now ≤ writes + length c.printed) (sym later) m.writes;
     }
 left_after grows image steps after (Ok StepsUsed) left before_left before now calls calls_now writes writes_now m same wants =
     let whole : m.made ≡ steps = m.all refl in
@@ -157,19 +157,19 @@ left_after grows image steps after (Ok StepsUsed) left before_left before now ca
       made = steps;
       leaves = (tt, refl, subst (λ n. RanAs image m.bytes n OutOfSteps (Some []) before now) whole at);
       stop_is = m.stands.ended ∙ ap (λ n. (round_run image m.bytes n).stop) whole;
-      writes = subst (λ n. writes_now ≤ writes + length (round_run image m.bytes n).printed) whole m.writes;
+      few = subst (λ n. writes_now ≤ writes + length (round_run image m.bytes n).printed) whole m.writes;
     }
 left_after grows image steps after (Err Read) left before_left before now calls calls_now writes writes_now m same wants = record {
   made = m.made;
   leaves = record { within = m.within; left_is = m.used; printed = all_written before now _ (m.written (λ e. cc)); due = due_there image m.bytes m.made _ after m.stands (wants refl) };
   stop_is = m.stands.ended;
-  writes = m.writes;
+  few = m.writes;
 }
 left_after grows image steps after (Err Write) left before_left before now calls calls_now writes writes_now m same wants = record {
   made = m.made;
   leaves = record { within = m.within; left_is = m.used; front = m.front; lacks = m.lacks refl };
   stop_is = m.stands.ended;
-  writes = m.writes;
+  few = m.writes;
 }
 
 -- by the end of the machine, what the answer tells of it
@@ -194,7 +194,7 @@ gave : OnlyGrows round_storage →
     IfOk result (λ finish. end_told finish ≡ after.ended) → (result ≡ Err Read → WantsAByte after) → Gave image steps console_before console_after out_before out_after (status_after result)
 gave grows image steps after result console_before console_after out_before out_after m same wants =
     let found = left_after grows image steps after result console_after.bytes console_before.bytes out_before.bytes out_after.bytes console_before.calls console_after.calls
-        out_before.calls out_after.calls m same wants in
+    out_before.calls out_after.calls m same wants in
     let most = subst (λ stop. asked_in_vain result after.ended ≤ in_vain (status_after result) stop) found.stop_is (vain_as_told result after.ended same) in
     record {
       bytes = m.bytes;
@@ -202,7 +202,7 @@ gave grows image steps after result console_before console_after out_before out_
       made = found.made;
       leaves = found.leaves;
       calls = omega (arith, m.calls, most);
-      writes = found.writes;
+      writes = found.few;
     }
 
 -- a drive from the start, over a console that may tell its bytes
