@@ -120,6 +120,7 @@ module _ (agree : ImagesAgree) (rings : RunsDoTheSame) (bounds_fit : BoundsFitRi
               ∙ ap (λ i. drop i (code_of library p ++ (world_of (source_run p input k)).space)) (sym code_is)
               ∙ drop-append_seam (code_of library p) (world_of (source_run p input k)).space,
         );
+    rings_agree = alike;
     data_stack_holds = λ n. (holds 33 32 fit n).0;
     return_stack_holds = λ n. (holds 33 32 fit n).1;
     stacks_hold = holds;

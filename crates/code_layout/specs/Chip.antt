@@ -1,11 +1,12 @@
 -- What the run of an image on the chip, whose stacks are rings, has to do with the meaning of its source.
 use Rattle.std.specs.Prelude.{◌≡◌, ℕ, ◌/◌, ◌≤◌, false, ℤ, pos, List, drop, Some}
 use Rattle.j1_simulator.specs.Step.{Stop}
-use Rattle.j1_simulator.specs.Run.{round_run, IsPrefixOf}
+use Rattle.j1_simulator.specs.Run.{round_run, open_run, IsPrefixOf}
 use Rattle.forth_program.specs.State.{End}
 use Rattle.forth_program.specs.Program.{SourceProgram}
 use Rattle.forth_program.specs.Run.{source_run, world_of, end_of, leaves}
 use Rattle.forth_program.specs.Price.{price}
+use Rattle.word_laws.specs.Rings.{Agrees}
 use Rattle.word_laws.specs.Standing.{machine_end}
 use Rattle.forth_program.specs.Tree.{Nodes}
 use Rattle.code_layout.specs.Layout.{laid_out}
@@ -31,6 +32,8 @@ pub record AgreesOnChip (library : List Nodes) (p : SourceProgram) (input : List
       ((round_run (laid_out library p) input n).printed ≡ (world_of (source_run p input k)).printed)
       × ((round_run (laid_out library p) input n).input ≡ (world_of (source_run p input k)).input)
       × (drop (p.data_start / 2) (round_run (laid_out library p) input n).core.memory ≡ (world_of (source_run p input k)).space)
+  -- the places of the live cells hold what those of the open machine hold
+  pub rings_agree : (n : ℕ) → Agrees (open_run (laid_out library p) input n) (round_run (laid_out library p) input n)
   -- the data stack holds at most 33 cells and the return stack at most 32, before and after each instruction
   pub data_stack_holds : (n : ℕ) → DepthStaysWithin 33 (round_run (laid_out library p) input n).data_depth
   pub return_stack_holds : (n : ℕ) → DepthStaysWithin 32 (round_run (laid_out library p) input n).return_depth

@@ -22,13 +22,13 @@ fn step_alone(machine: &mut Machine) -> CoreEvent
     ensures { Alone machine.new result ≡ own_step machine.old.ended machine.old }
 {
     steps_are_the_run();
-    match machine.step() {
+    match machine.step_apart() {
         Event::Went => CoreEvent::Went,
         Event::Printed(byte) => CoreEvent::Printed(byte),
         Event::Ended(end) => CoreEvent::Ended(end),
         Event::WantsByte => {
             machine.give_byte(None);
-            machine.step();
+            machine.step_apart();
             CoreEvent::Ended(End::InputEnded)
         }
     }

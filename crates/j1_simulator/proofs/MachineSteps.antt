@@ -9,7 +9,7 @@ use Rattle.j1_simulator.specs.declared.ends.Event.{Event}
 use Rattle.j1_simulator.specs.declared.ends.Event.TheVariants.{WantsByte}
 use Rattle.j1_simulator.specs.Step.{Core, By, Missing, Transition, Advances, Takes, Terminates, step, effect_at}
 use Rattle.j1_simulator.specs.RoundMachine.{RingCells, round_storage}
-use Rattle.j1_simulator.specs.MachineState.{WentOn, Wanting, Stopped, with_key, key_of, MachineState, Depths, depths_after, end_of_output, event_of, GoesOn, EndsBy, AnswersStep, Steps}
+use Rattle.j1_simulator.specs.MachineState.{WentOn, Wanting, Stopped, with_key, key_of, MachineState, Depths, depths_after, end_of_output, event_of, GoesOn, EndsBy, AnswersStep, Steps, IsTaking, GivenIsDue}
 
 answers_goes : (given : Option (Option ℕ)) (o : Transition ℕ RingCells) (core : Core ℕ RingCells) (output : Output) (event : Event) (old new : MachineState) →
     WentOn core output ≡ with_key (key_of given) o → GoesOn core output event old new → AnswersStep given o event old new
@@ -37,6 +37,21 @@ steps_ok old now core output key event effect depths ended same running k went f
     let answers = answers_goes old.given (step round_storage old.data_start old.core) core output event old new w goes in
     let steps : Steps old.ended event old new = subst (λ s. Steps s event old new) (sym running) answers in
     subst (λ o. Steps o.ended event o new) same steps
+
+-- what was given is for an instruction that takes a byte
+taking_wants : (o : Transition ℕ RingCells) (core : Core ℕ RingCells) → IsTaking o → WentOn core Silent ≡ with_key None o → ⊥
+taking_wants (Takes next) core t e = cc
+taking_wants (Advances c d) core t e = absurd t
+taking_wants (Terminates stop) core t e = absurd t
+
+given_unused : (given : Option (Option ℕ)) (old : MachineState) (core : Core ℕ RingCells) → old.given ≡ given → GivenIsDue old →
+    WentOn core Silent ≡ with_key None (step round_storage old.data_start old.core) → given ≡ None
+given_unused None old core g due went = refl
+given_unused (Some key) old core g due went = absurd (taking_wants (step round_storage old.data_start old.core) core (due key g).taking went)
+
+-- so nothing is given before an instruction that goes on without a byte
+pub none_given : (old : MachineState) (core : Core ℕ RingCells) → GivenIsDue old → WentOn core Silent ≡ with_key None (step round_storage old.data_start old.core) → old.given ≡ None
+none_given old core due went = given_unused old.given old core refl due went
 
 answers_wanting : (given : Option (Option ℕ)) (o : Transition ℕ RingCells) (old new : MachineState) → given ≡ None → Wanting ≡ with_key (key_of given) o → new ≡ old → AnswersStep given o WantsByte old new
 answers_wanting None (Takes next) old new none e same = (refl, same)

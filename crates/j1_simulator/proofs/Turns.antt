@@ -1,5 +1,5 @@
 -- What a turn of a drive leaves.
-use Rattle.std.proofs.Common.{◌≡◌, ℕ, List, [], drop, Option, Some, None, refl, sym, ap, ◌∙◌, subst, inl, inr, ⊎_elim}
+use Rattle.std.proofs.Common.{◌≡◌, ℕ, ◌+◌, ◌<◌, ◌≤◌, arith, List, [], length, drop, Option, Some, None, refl, sym, ap, ◌∙◌, subst, inl, inr, ⊎_elim}
 use Rattle.std.specs.Prelude.{Bool, ◌&&◌, IsTrue, OnOk, OnErr, Result, Ok, Err}
 use Rattle.std.specs.Io.KnownBytes.{Appends}
 use Rattle.outside_io.specs.Bytes.{AppendsFront}
@@ -15,7 +15,7 @@ use Rattle.j1_simulator.specs.Run.{Configuration, advance}
 use Rattle.j1_simulator.specs.declared.ends.DriveError.{DriveError}
 use Rattle.j1_simulator.specs.declared.ends.DriveError.TheVariants.{Read, Write}
 use Rattle.j1_simulator.specs.Drive.{HoldsPrints, HoldsFront, StandsAt, IsAt, end_of_event, counters_fit, KeepsEnd}
-use Rattle.j1_simulator.specs.Turn.{LeftAfter, ComesFrom, IsTaken, MayWait, Follows, Fills, TurnEnds}
+use Rattle.j1_simulator.specs.Turn.{LeftAfter, ComesFrom, IsTaken, MayWait, Follows, Fills, WritesFew, TurnEnds}
 use Rattle.j1_simulator.proofs.FlushedOutput.{holds_flushed, holds_front}
 use Rattle.j1_simulator.specs.Laws.{BeginsAtStart, WantsExactly, StepIsInstruction, GivenStepIsInstruction}
 use Rattle.j1_simulator.proofs.RunSteps.{Turned, turned, key_turned, kept_left, wants_not, ends_of}
@@ -73,19 +73,22 @@ pub noted : (r : Result (Option End) DriveError) (taken : Option (Option ℕ)) (
     OnErr r (r ≡ Err Write) → OnOk r (HoldsPrints before now' buffer' (advance data_start configuration).printed) →
     OnErr r (HoldsFront before now' (advance data_start configuration).printed)
     → OnOk r (MayWait old waited → Follows new configuration (advance data_start configuration) waited buffer') →
-    OnErr r (Fills new configuration (advance data_start configuration) waited) →
-    TurnEnds r taken old waited configuration fits new data_start left before now' buffer'
-noted (Ok end) taken old waited configuration fits new data_start left before now now' buffer buffer' event t e h f follows fills = (record { stands = t.at.stands; left_is = t.at.left_is; out = h }, follows)
-noted (Err Read) taken old waited configuration fits new data_start left before now now' buffer buffer' event t e h f follows fills = cc
-noted (Err Write) taken old waited configuration fits new data_start left before now now' buffer buffer' event t e h f follows fills = inr (fills, record { stands = t.at.stands; left_is = t.at.left_is; front = f })
+    OnErr r (Fills new configuration (advance data_start configuration) waited) → (writes writes_now : ℕ) →
+    OnOk r (WritesFew configuration (advance data_start configuration) waited buffer' writes writes_now) →
+    OnErr r (WritesFew configuration (advance data_start configuration) waited [] writes writes_now) →
+    TurnEnds r taken old waited configuration fits new data_start left before now' buffer' writes writes_now
+noted (Ok end) taken old waited configuration fits new data_start left before now now' buffer buffer' event t e h f follows fills writes writes_now few few_err = (record { stands = t.at.stands; left_is = t.at.left_is; out = h }, follows, few)
+noted (Err Read) taken old waited configuration fits new data_start left before now now' buffer buffer' event t e h f follows fills writes writes_now few few_err = cc
+noted (Err Write) taken old waited configuration fits new data_start left before now now' buffer buffer' event t e h f follows fills writes writes_now few few_err = inr (fills, record { stands = t.at.stands; left_is = t.at.left_is; front = f }, few_err)
 
 -- a turn whose first flush failed
 pub not_flushed : (r : Result (Option End) DriveError) (configuration : Configuration ℕ RingCells) (fits : Bool) (machine new : MachineState) (data_start : ℕ)
     (left left' before now now' : Option (List ℕ)) (buffer buffer' : List ℕ) → r ≡ Err Write → LeftAfter None left left' →
     IsAt configuration fits machine data_start left before now buffer → new ≡ machine → WantsAByte machine → AppendsFront now now' buffer →
-    TurnEnds r None machine buffer configuration fits new data_start left' before now' buffer'
-not_flushed r configuration fits machine new data_start left left' before now now' buffer buffer' e l a same w bytes =
-    subst (λ r. TurnEnds r None machine buffer configuration fits new data_start left' before now' buffer') (sym e)
+    (writes writes_now : ℕ) → 0 < length buffer → writes_now ≤ writes + length buffer →
+    TurnEnds r None machine buffer configuration fits new data_start left' before now' buffer' writes writes_now
+not_flushed r configuration fits machine new data_start left left' before now now' buffer buffer' e l a same w bytes writes writes_now some few =
+    subst (λ r. TurnEnds r None machine buffer configuration fits new data_start left' before now' buffer' writes writes_now) (sym e)
     (inl (
       refl,
       subst WantsAByte (sym same) w,
@@ -94,16 +97,21 @@ not_flushed r configuration fits machine new data_start left left' before now no
         left_is = subst (λ x. LeftAfter None x left') a.left_is l;
         front = holds_front before now now' buffer configuration.printed a.out bytes;
       },
+      some,
+      omega (arith, few),
     ))
 
 -- a turn whose question failed
 pub not_asked : (r : Result (Option End) DriveError) (configuration : Configuration ℕ RingCells) (fits : Bool) (machine new : MachineState) (data_start : ℕ)
     (left left' before now now' : Option (List ℕ)) (buffer buffer' : List ℕ) → r ≡ Err Read → LeftAfter None left left' →
     IsAt configuration fits machine data_start left before now buffer → new ≡ machine → Appends now now' buffer →
-    TurnEnds r None machine buffer configuration fits new data_start left' before now' buffer'
-not_asked r configuration fits machine new data_start left left' before now now' buffer buffer' e l a same bytes =
-    subst (λ r. TurnEnds r None machine buffer configuration fits new data_start left' before now' buffer') (sym e)
-    (kept_left configuration fits new data_start left left' before now' [] l (flushed configuration fits machine new data_start left before now now' buffer a same bytes))
+    (writes writes_now : ℕ) → writes_now ≤ writes + length buffer →
+    TurnEnds r None machine buffer configuration fits new data_start left' before now' buffer' writes writes_now
+not_asked r configuration fits machine new data_start left left' before now now' buffer buffer' e l a same bytes writes writes_now few =
+    subst (λ r. TurnEnds r None machine buffer configuration fits new data_start left' before now' buffer' writes writes_now) (sym e) (
+      kept_left configuration fits new data_start left left' before now' [] l (flushed configuration fits machine new data_start left before now now' buffer a same bytes),
+      omega (arith, few),
+    )
 
 -- no byte was asked for
 pub none_taken : (old new : MachineState) (left after : Option (List ℕ)) → old.given ≡ None → LeftAfter None left after → IsTaken old new None left after

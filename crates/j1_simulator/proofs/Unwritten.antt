@@ -67,16 +67,17 @@ ended_there configuration fits new data_start s e = input_ended new.ended (s.end
 
 -- a failed write before a question, or at the end
 pub lacks_flush : (limit k : ℕ) (fits : Bool) (first new : MachineState) (input : List ℕ) (before now later : Option (List ℕ)) (buffer : List ℕ) →
-    length buffer < 512 → StandsAt (driven first k input) fits new first.data_start → WantsAByte new ⊎ ((end : End) × (new.ended ≡ Some end)) ⊎ (k ≡ limit) →
+    length buffer < 512 → 0 < length buffer → StandsAt (driven first k input) fits new first.data_start → WantsAByte new ⊎ ((end : End) × (new.ended ≡ Some end)) ⊎ (k ≡ limit) →
     (new.ended ≡ Some InputEnded → buffer ≡ []) → HoldsPrints before now buffer (driven first k input).printed → Unwritten first k input buffer →
     HoldsAll now later [] → LacksLast limit k (λ k. driven first k input) first.data_start before later
-lacks_flush limit k fits first new input before now later buffer room stands cause none h u grows =
+lacks_flush limit k fits first new input before now later buffer room some stands cause none h u grows =
     let size = waiting_length first k input buffer u in
     record {
       since = u.since;
       earlier = u.earlier;
       untaken = u.untaken;
       kept = holds_still before now later (driven first u.since input).printed buffer (driven first k input).printed h u.more grows;
+      waited = omega (arith, size);
       short = λ j less. let le = grown first input j k (omega arith) in omega (arith, size, le);
       due = inr (omega (arith, size), due_there limit k first.data_start (driven first k input) fits new stands cause);
       ended = λ e.
@@ -103,6 +104,7 @@ lacks_full limit k fits first new input before now later buffer room stands f h 
       earlier = let le = u.earlier in omega (arith, le);
       untaken = u.untaken ∙ sym f.adds.untaken ∙ sym (ap (λ c. c.input) next);
       kept = holds_still before now later (driven first u.since input).printed buffer (driven first k input).printed h u.more grows;
+      waited = omega (arith, whole);
       short = λ j less. let le = grown first input j k (omega arith) in omega (arith, size, le);
       due = inl whole;
       ended = λ e. absurd (f.goes_on (ended_there _ fits new first.data_start stands e));

@@ -120,7 +120,7 @@ printed_goes_on event end p e = p (ended_silent event end e)
 prints_of_blank : (xs ys : List ℕ) → HoldsPrints (Some []) (Some []) xs ys → ys ≡ xs
 prints_of_blank xs ys h = let e : h.0 ≡ [] = sym h.1 in sym h.2 ∙ ap (λ w. w ++ xs) e
 
-stepped_prints : (configuration : Configuration ℕ RingCells) (fits : Bool) (machine new : MachineState) (data_start : ℕ) (event : Event)
+pub stepped_prints : (configuration : Configuration ℕ RingCells) (fits : Bool) (machine new : MachineState) (data_start : ℕ) (event : Event)
     (left left' before now : Option (List ℕ)) (buffer : List ℕ) → IsAt configuration fits machine data_start left before now buffer → GivenIsDue machine →
     Steps machine.ended event machine new → (event ≡ WantsByte → ⊥) → LeftAfter machine.given left left' →
     (advance data_start configuration).printed ≡ configuration.printed ++ told event

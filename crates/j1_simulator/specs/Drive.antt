@@ -121,13 +121,14 @@ abbrev pub TakesNext : ℕ → Configuration ℕ RingCells → Type 0
 TakesNext data_start configuration = (configuration.stop ≡ None) × IsTaking (step round_storage data_start configuration.core)
 
 -- after so many instructions of a run, out has all that was printed until a moment since which no byte was taken. From then on
--- bytes waited to be written: fewer than 512 until the last instruction. Then they were written, since there were 512, or
+-- bytes waited to be written: at least one, and fewer than 512 until the last instruction. Then they were written, since there were 512, or
 -- a byte was due, or the run had ended, or was to break off here. Where it ended for want of input, all had been written before
 pub record LacksLast (limit made : ℕ) (at : ℕ → Configuration ℕ RingCells) (data_start : ℕ) (before now : Option (List ℕ)) : Type 0 where
   pub since : ℕ
   pub earlier : since ≤ made
   pub untaken : (at since).input ≡ (at made).input
   pub kept : HoldsAll before now (at since).printed
+  pub waited : length (at since).printed < length (at made).printed
   pub short : (j : ℕ) → j < made → length (at j).printed < length (at since).printed + 512
   pub due :
       (length (at made).printed ≡ length (at since).printed + 512)
@@ -150,8 +151,9 @@ in_vain result end = 0
 
 -- the machine has made at most n instructions of its run on the bytes that the console gave: all n where the answer is StepsUsed,
 -- fewer where a read failed. The console was asked at most once for each of these bytes, and once in vain;
--- what the instructions printed stands in out, where it tells its bytes, or a beginning of it after a failed write
-pub record MadeAtMost (n : ℕ) (result : Result Finish DriveError) (old new : MachineState) (left after before now : Option (List ℕ)) (calls_before calls_after : ℕ) : Type 0 where
+-- what the instructions printed stands in out, where it tells its bytes, or a beginning of it after a failed write.
+-- Out was called at most once for each byte that was printed
+pub record MadeAtMost (n : ℕ) (result : Result Finish DriveError) (old new : MachineState) (left after before now : Option (List ℕ)) (calls_before calls_after writes_before writes_after : ℕ) : Type 0 where
   pub made : ℕ
   pub within : made ≤ n
   pub all : result ≡ Ok StepsUsed → made ≡ n
@@ -163,6 +165,7 @@ pub record MadeAtMost (n : ℕ) (result : Result Finish DriveError) (old new : M
   pub stands : StandsAt (driven old made (input_for old.given bytes)) (driven_fits old made (input_for old.given bytes)) new old.data_start
   pub written : (result ≡ Err Write → ⊥) → HoldsPrints before now [] (driven old made (input_for old.given bytes)).printed
   pub front : HoldsFront before now (driven old made (input_for old.given bytes)).printed
+  pub writes : writes_after ≤ writes_before + length (driven old made (input_for old.given bytes)).printed
   pub lacks : result ≡ Err Write → LacksLast n made (λ k. driven old k (input_for old.given bytes)) old.data_start before now
 
 -- a machine that had ended has that end still

@@ -1,5 +1,5 @@
 -- What one turn of a drive does: one instruction, with the question for its byte.
-use Rattle.std.specs.Prelude.{ℕ, ◌≡◌, ◌⊎◌, ◌+◌, ◌≤◌, Bool, ◌&&◌, List, [], ◌++◌, length, drop, Option, Some, None, IfSome, slice_get, Result, Ok, Err}
+use Rattle.std.specs.Prelude.{ℕ, ◌≡◌, ◌⊎◌, ◌+◌, ◌<◌, ◌≤◌, Bool, ◌&&◌, List, [], ◌++◌, length, drop, Option, Some, None, IfSome, slice_get, Result, Ok, Err}
 use Rattle.j1_simulator.specs.declared.ends.End.{End}
 use Rattle.j1_simulator.specs.declared.ends.End.TheVariants.{InputEnded}
 use Rattle.j1_simulator.specs.declared.ends.DriveError.{DriveError}
@@ -48,18 +48,26 @@ pub record Fills (new : MachineState) (from to : Configuration ℕ RingCells) (b
   pub full : length waiting ≡ 512
   pub goes_on : new.ended ≡ Some InputEnded → ⊥
 
+-- out was called at most once for each byte that no longer waits
+abbrev pub WritesFew : Configuration ℕ RingCells → Configuration ℕ RingCells → List ℕ → List ℕ → ℕ → ℕ → Type 0
+WritesFew from to buffer waiting writes_before writes_after =
+    writes_after + length waiting + length from.printed ≤ writes_before + length buffer + length to.printed
+
 -- a turn from this moment, which took such a byte, has come to the next one, or broke off: before it made its instruction, when it
 -- took none, or after it, when 512 bytes waited
-abbrev pub TurnEnds : Result (Option End) DriveError → Option (Option ℕ) → MachineState → List ℕ → Configuration ℕ RingCells → Bool → MachineState → ℕ → Option (List ℕ) → Option (List ℕ) → Option (List ℕ) → List ℕ → Type 0
-TurnEnds (Ok end) taken old buffer configuration fits new data_start left before now waiting =
+abbrev pub TurnEnds : Result (Option End) DriveError → Option (Option ℕ) → MachineState → List ℕ → Configuration ℕ RingCells → Bool → MachineState → ℕ → Option (List ℕ) → Option (List ℕ) → Option (List ℕ) → List ℕ → ℕ → ℕ → Type 0
+TurnEnds (Ok end) taken old buffer configuration fits new data_start left before now waiting writes_before writes_after =
     IsAt (advance data_start configuration) (fits && counters_fit (advance data_start configuration)) new data_start left before now waiting
     × (MayWait old buffer → Follows new configuration (advance data_start configuration) buffer waiting)
-TurnEnds (Err Read) taken old buffer configuration fits new data_start left before now waiting =
-    IsAt configuration fits new data_start left before now []
-TurnEnds (Err Write) taken old buffer configuration fits new data_start left before now waiting =
-    ((taken ≡ None) × WantsAByte new × StandsWritten configuration fits new data_start left before now)
+    × WritesFew configuration (advance data_start configuration) buffer waiting writes_before writes_after
+TurnEnds (Err Read) taken old buffer configuration fits new data_start left before now waiting writes_before writes_after =
+    IsAt configuration fits new data_start left before now [] × WritesFew configuration configuration buffer [] writes_before writes_after
+TurnEnds (Err Write) taken old buffer configuration fits new data_start left before now waiting writes_before writes_after =
+    ((taken ≡ None) × WantsAByte new × StandsWritten configuration fits new data_start left before now
+    × (0 < length buffer) × WritesFew configuration configuration buffer [] writes_before writes_after)
     ⊎ (Fills new configuration (advance data_start configuration) buffer
-    × StandsWritten (advance data_start configuration) (fits && counters_fit (advance data_start configuration)) new data_start left before now)
+    × StandsWritten (advance data_start configuration) (fits && counters_fit (advance data_start configuration)) new data_start left before now
+    × WritesFew configuration (advance data_start configuration) buffer [] writes_before writes_after)
 
 -- how often a turn asks the console: once where a read fails, or where it takes a byte that was not given by hand
 abbrev pub asks : Result (Option End) DriveError → Option (Option ℕ) → Option (Option ℕ) → ℕ
@@ -68,10 +76,10 @@ asks result None (Some byte) = 1
 asks result given taken = 0
 
 -- a turn takes at most one byte, and makes its instruction from whatever moment the machine stands at
-pub record Turns (result : Result (Option End) DriveError) (old new : MachineState) (left after now later : Option (List ℕ)) (buffer waiting : List ℕ) (calls_before calls_after : ℕ) : Type 0 where
+pub record Turns (result : Result (Option End) DriveError) (old new : MachineState) (left after now later : Option (List ℕ)) (buffer waiting : List ℕ) (calls_before calls_after writes_before writes_after : ℕ) : Type 0 where
   pub taken : Option (Option ℕ)
   pub takes : IsTaken old new taken left after
   pub calls : calls_after ≤ calls_before + asks result old.given taken
   pub ends :
       (configuration : Configuration ℕ RingCells) (fits : Bool) (data_start : ℕ) (before input rest : Option (List ℕ)) → LeftAfter taken input rest →
-      IsAt configuration fits old data_start input before now buffer → TurnEnds result taken old buffer configuration fits new data_start rest before later waiting
+      IsAt configuration fits old data_start input before now buffer → TurnEnds result taken old buffer configuration fits new data_start rest before later waiting writes_before writes_after

@@ -44,6 +44,8 @@ fn note<O: Sink>(event: Event, buffer: &mut Buffer, out: &mut O) -> Result<Optio
     ensures grows { HoldsAll (O.held out.old) (O.held out.new) [] }
     ensures waits { OnOk result ((buffer.new ≡ []) ⊎ (buffer.new ≡ buffer.old ++ told event)) }
     ensures full { OnErr result ((length (buffer.old ++ told event) ≡ 512) × (told event ≡ [] → ⊥)) }
+    ensures writes { O.calls out.new ≤ O.calls out.old + length (buffer.old ++ told event) }
+    ensures fewer { OnOk result (O.calls out.new + length buffer.new ≤ O.calls out.old + length (buffer.old ++ told event)) }
 {
     match event {
         Event::Went => Ok(None),
@@ -85,7 +87,7 @@ fn turn<C: Source, O: Sink>(
     ensures quiet { (WantsAByte machine.old → ⊥) → console.new ≡ console.old }
 
     ensures grows { HoldsAll (O.held out.old) (O.held out.new) [] }
-    ensures run { Turns result machine.old machine.new (C.left console.old) (C.left console.new) (O.held out.old) (O.held out.new) buffer.old buffer.new (C.calls console.old) (C.calls console.new) }
+    ensures run { Turns result machine.old machine.new (C.left console.old) (C.left console.new) (O.held out.old) (O.held out.new) buffer.old buffer.new (C.calls console.old) (C.calls console.new) (O.calls out.old) (O.calls out.new) }
 {
     match machine.step() {
         Event::WantsByte => {
@@ -101,13 +103,14 @@ fn turn<C: Source, O: Sink>(
 /// Makes at most `n` instructions, with the input from `console` and what is printed going to `out`.
 ///
 /// The console is asked for one byte, and only where the next instruction takes one. What is printed waits in a buffer of
-/// 512 bytes, which is written out before each such question, when it is full, and at the end. Where the run has ended,
-/// now or before, the answer is its end at each `n`; `StepsUsed` comes exactly where it has not.
+/// 512 bytes, which is written out before each such question, when it is full, and at the end, but only where a byte waits: `out` is
+/// called at most once for each byte. Where the run has ended, now or before, the answer is its end at each `n`; `StepsUsed` comes
+/// exactly where it has not.
 ///
 /// An error comes only where the count of faults of `console` or of `out` rose. After `Read` the machine still wants its
 /// byte, and all that was printed has been written. After `Write` the machine and the console stand where that write was
-/// due, and `out` holds a beginning of what was printed: it lacks at most the 512 bytes that were written last, of which none
-/// had been printed when the console was last asked.
+/// due, and `out` holds a beginning of what was printed: it lacks at most the 512 bytes that were written last, of which there is
+/// at least one, and none had been printed when the console was last asked.
 ///
 /// The input of the run is the byte given by hand, where there is one that is not yet used, and then the bytes of the console;
 /// where it was told by hand that there is none left, it is empty, and the console is left alone. The clauses `run`, `read`
@@ -121,7 +124,7 @@ pub fn drive<C: Source, O: Sink>(
     // The machine, the input left and the output are those of the run after n instructions.
     ensures run { IfSome (C.left console.old) (λ bytes.
         OnOk result (IsDriven machine.old n bytes machine.new (C.left console.new) (O.held out.old) (O.held out.new) [])) }
-    ensures at_most { MadeAtMost n result machine.old machine.new (C.left console.old) (C.left console.new) (O.held out.old) (O.held out.new) (C.calls console.old) (C.calls console.new) }
+    ensures at_most { MadeAtMost n result machine.old machine.new (C.left console.old) (C.left console.new) (O.held out.old) (O.held out.new) (C.calls console.old) (C.calls console.new) (O.calls out.old) (O.calls out.new) }
     // The first instruction uses what was given by hand.
     ensures given { machine.new.given ≡ given_after n machine.old.given }
     ensures by_hand { machine.old.given ≡ Some None → console.new ≡ console.old }

@@ -130,7 +130,6 @@ impl Machine {
     {
         let effect = self.cpu.effect_of(instr);
         self.cpu.pass(effect);
-        self.given = None;
         self.depths.count(effect);
         Event::Went
     }
@@ -167,10 +166,12 @@ impl Machine {
         }
     }
 
-    /// A step, kept apart from the code of the loop that makes most steps.
-    #[cold]
+    /// Makes one instruction as `step` does, in code of its own.
+    ///
+    /// `drive` has the code of `step` inside its loop, where it is fast. It stands there only as long as `drive` is its one caller in
+    /// the program: all others call this one.
     #[inline(never)]
-    pub(crate) fn step_apart(&mut self) -> Event
+    pub fn step_apart(&mut self) -> Event
         ensures step { Steps self.old.ended result self.old self.new }
         ensures due { GivenIsDue self.old }
     {

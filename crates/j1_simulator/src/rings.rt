@@ -53,7 +53,9 @@ impl Ring {
         requires high { places ≤ℤ pos 1 }
         ensures { self.new ≡ ring_moved places self.old }
     {
-        self.at = (self.at as i8 + places).rem_euclid(32) as u8;
+        if places != 0 {
+            self.at = (self.at as i8 + places).rem_euclid(32) as u8;
+        }
     }
 
     #[inline(always)]

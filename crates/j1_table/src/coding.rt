@@ -22,18 +22,18 @@ pub fn decode(cell: u16) -> Instr
     ensures back { encoded result ≡ cell }
     ensures fits { IsInstr result }
 {
-    if let Some(target) = Bits13::new(cell) {
-        return Instr::Jump(target);
+    if cell >= 0x8000 {
+        return match Bits15::new(cell & 0x7fff) {
+            Some(value) => Instr::Literal(value),
+            None => unreachable!(),
+        };
     }
     let bits = low_bits(cell);
     match cell >> 13 {
+        0 => Instr::Jump(bits),
         1 => Instr::Branch(bits),
         2 => Instr::Call(bits),
-        3 => Instr::Alu(AluWord::new(bits)),
-        _ => match Bits15::new(cell & 0x7fff) {
-            Some(value) => Instr::Literal(value),
-            None => unreachable!(),
-        },
+        _ => Instr::Alu(AluWord::new(bits)),
     }
 }
 

@@ -34,17 +34,12 @@ impl Model for AluWord {
     ghost inverse = { λ n. record { bits = n } };
 }
 
-// The move of a two-bit code.
+// The move of a two-bit code, which is its two's complement.
 fn move_at(code: u16) -> i8
     requires { code < 4 }
     ensures { result ≡ move_of code }
 {
-    match code {
-        0 => 0,
-        1 => 1,
-        2 => -2,
-        _ => -1,
-    }
+    (code as i8 ^ 2) - 2
 }
 
 impl AluWord {

@@ -1,5 +1,5 @@
 -- What a drive from the start leaves, as the status tells it.
-use Rattle.std.proofs.Common.{◌≡◌, ◌⊎◌, inl, inr, ℕ, zero, suc, ◌+◌, ◌<◌, ◌≤◌, List, [], ◌++◌, Bool, refl, sym, ap, ◌∙◌, subst, arith}
+use Rattle.std.proofs.Common.{◌≡◌, ◌⊎◌, inl, inr, ℕ, zero, suc, ◌+◌, ◌<◌, ◌≤◌, List, [], ◌++◌, length, Bool, refl, sym, ap, ◌∙◌, subst, arith}
 use Rattle.std.specs.Prelude.{Option, Some, None, option_map, Result, Ok, Err, IfSome, IfOk, OnOk}
 use Rattle.std.specs.Io.KnownBytes.{Appends}
 use Rattle.std.proofs.lemmas.List.{append-nil}
@@ -119,17 +119,19 @@ ended_later : OnlyGrows round_storage → (image : Content) (bytes : List ℕ) (
 ended_later grows image bytes made steps fits after end le stands told =
     grows.ends image.data_start made steps (going_on (machine_start image) bytes) (By end) le (sym stands.ended ∙ ap (option_map By) (sym told))
 
--- after so many instructions the drive leaves this, and the run has the end of the machine
-pub record LeftAfter (image : Content) (bytes : List ℕ) (steps : ℕ) (status : Status) (end : Option End) (before now : Option (List ℕ)) : Type 0 where
+-- after so many instructions the drive leaves this, the run has the end of the machine, and out was called at most once for each byte
+pub record LeftAfter (image : Content) (bytes : List ℕ) (steps : ℕ) (status : Status) (end : Option End) (before now : Option (List ℕ)) (writes writes_now : ℕ) : Type 0 where
   pub made : ℕ
   pub leaves : DriveLeaves image bytes steps made status (Some []) before now
   pub stop_is : option_map By end ≡ (round_run image bytes made).stop
+  pub few : writes_now ≤ writes + length (round_run image bytes made).printed
 
 left_after : OnlyGrows round_storage →
     (image : Content) (steps : ℕ) (after : MachineState) (result : Result Finish DriveError) (left before_left before now : Option (List ℕ))
-    (calls calls_now : ℕ) → (m : MadeAtMost steps result (machine_start image) after before_left left before now calls calls_now) →
-    IfOk result (λ finish. end_told finish ≡ after.ended) → (result ≡ Err Read → WantsAByte after) → LeftAfter image m.bytes steps (status_after result) after.ended before now
-left_after grows image steps after (Ok (Ended end)) left before_left before now calls calls_now m same wants =
+    (calls calls_now writes writes_now : ℕ) → (m : MadeAtMost steps result (machine_start image) after before_left left before now calls calls_now writes writes_now) →
+    IfOk result (λ finish. end_told finish ≡ after.ended) → (result ≡ Err Read → WantsAByte after) →
+    LeftAfter image m.bytes steps (status_after result) after.ended before now writes writes_now
+left_after grows image steps after (Ok (Ended end)) left before_left before now calls calls_now writes writes_now m same wants =
     let later : round_run image m.bytes steps ≡ round_run image m.bytes m.made = ended_later grows image m.bytes m.made steps _ after end m.within m.stands same in
     let at : RanAs image m.bytes steps (status_of (Some end)) (Some []) before now = record {
       end = Some end;
@@ -141,8 +143,9 @@ left_after grows image steps after (Ok (Ended end)) left before_left before now 
       made = steps;
       leaves = as_run image m.bytes steps (status_of (Some end)) (Some []) before now (end_is_answer (Some end)) at;
       stop_is = m.stands.ended ∙ ap (λ c. c.stop) (sym later);
+      few = subst (λ c. writes_now ≤ writes + length c.printed) (sym later) m.writes;
     }
-left_after grows image steps after (Ok StepsUsed) left before_left before now calls calls_now m same wants =
+left_after grows image steps after (Ok StepsUsed) left before_left before now calls calls_now writes writes_now m same wants =
     let whole : m.made ≡ steps = m.all refl in
     let at : RanAs image m.bytes m.made OutOfSteps (Some []) before now = record {
       end = None;
@@ -154,16 +157,19 @@ left_after grows image steps after (Ok StepsUsed) left before_left before now ca
       made = steps;
       leaves = (tt, refl, subst (λ n. RanAs image m.bytes n OutOfSteps (Some []) before now) whole at);
       stop_is = m.stands.ended ∙ ap (λ n. (round_run image m.bytes n).stop) whole;
+      few = subst (λ n. writes_now ≤ writes + length (round_run image m.bytes n).printed) whole m.writes;
     }
-left_after grows image steps after (Err Read) left before_left before now calls calls_now m same wants = record {
+left_after grows image steps after (Err Read) left before_left before now calls calls_now writes writes_now m same wants = record {
   made = m.made;
   leaves = record { within = m.within; left_is = m.used; printed = all_written before now _ (m.written (λ e. cc)); due = due_there image m.bytes m.made _ after m.stands (wants refl) };
   stop_is = m.stands.ended;
+  few = m.writes;
 }
-left_after grows image steps after (Err Write) left before_left before now calls calls_now m same wants = record {
+left_after grows image steps after (Err Write) left before_left before now calls calls_now writes writes_now m same wants = record {
   made = m.made;
   leaves = record { within = m.within; left_is = m.used; front = m.front; lacks = m.lacks refl };
   stop_is = m.stands.ended;
+  few = m.writes;
 }
 
 -- by the end of the machine, what the answer tells of it
@@ -184,10 +190,11 @@ vain_as_told (Err Write) (Some (ends.Halted status)) same = omega arith
 gave : OnlyGrows round_storage →
     (image : Content) (steps : ℕ) (after : MachineState) (result : Result Finish DriveError) (console_before console_after out_before out_after : Stream) →
     MadeAtMost steps result (machine_start image) after console_before.bytes console_after.bytes out_before.bytes out_after.bytes console_before.calls
-    console_after.calls →
+    console_after.calls out_before.calls out_after.calls →
     IfOk result (λ finish. end_told finish ≡ after.ended) → (result ≡ Err Read → WantsAByte after) → Gave image steps console_before console_after out_before out_after (status_after result)
 gave grows image steps after result console_before console_after out_before out_after m same wants =
-    let found = left_after grows image steps after result console_after.bytes console_before.bytes out_before.bytes out_after.bytes console_before.calls console_after.calls m same wants in
+    let found = left_after grows image steps after result console_after.bytes console_before.bytes out_before.bytes out_after.bytes console_before.calls console_after.calls
+    out_before.calls out_after.calls m same wants in
     let most = subst (λ stop. asked_in_vain result after.ended ≤ in_vain (status_after result) stop) found.stop_is (vain_as_told result after.ended same) in
     record {
       bytes = m.bytes;
@@ -195,6 +202,7 @@ gave grows image steps after result console_before console_after out_before out_
       made = found.made;
       leaves = found.leaves;
       calls = omega (arith, m.calls, most);
+      writes = found.few;
     }
 
 -- a drive from the start, over a console that may tell its bytes
@@ -203,7 +211,8 @@ pub drives : OnlyGrows round_storage → (image : Content) (steps : ℕ) (machin
     IfSome console_before.bytes (OkSays steps machine after result console_after.bytes out_before.bytes out_after.bytes) →
     IfSome console_before.bytes (ReadSays steps machine after result console_after.bytes out_before.bytes out_after.bytes) →
     IfSome console_before.bytes (WriteSays steps machine after result console_after.bytes out_before.bytes out_after.bytes) →
-    MadeAtMost steps result machine after console_before.bytes console_after.bytes out_before.bytes out_after.bytes console_before.calls console_after.calls → console_after.calls ≤ console_before.calls + steps →
+    MadeAtMost steps result machine after console_before.bytes console_after.bytes out_before.bytes out_after.bytes console_before.calls console_after.calls
+    out_before.calls out_after.calls → console_after.calls ≤ console_before.calls + steps →
     IfOk result (λ finish. end_told finish ≡ after.ended) → (result ≡ Err Read → WantsAByte after) → status ≡ status_after result →
     (result ≡ Err Read → Rose console_before.faults console_after.faults) → (result ≡ Err Write → Rose out_before.faults out_after.faults) →
     console_before.faults ≤ console_after.faults → out_before.faults ≤ out_after.faults →
@@ -225,7 +234,7 @@ drives grows image steps machine after result status console_before console_afte
       (subst
       (λ m.
       MadeAtMost steps result m after console_before.bytes console_after.bytes out_before.bytes out_after.bytes console_before.calls
-      console_after.calls) begins made) same wants);
+      console_after.calls out_before.calls out_after.calls) begins made) same wants);
   calls = calls;
   read_fault = λ fault. read_cause (read_failed result (sym is ∙ fault));
   write_fault = λ fault. write_cause (write_failed result (sym is ∙ fault));

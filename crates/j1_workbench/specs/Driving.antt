@@ -65,13 +65,14 @@ in_vain status (Some (By ends.InputEnded)) = 1
 in_vain status stop = 0
 
 -- the console gave some bytes: the drive leaves what it leaves on a console that has just these, and asked at most once for each, and
--- once in vain
+-- once in vain. Out was called at most once for each byte that was printed
 pub record Gave (image : Content) (steps : ℕ) (console_before console_after out_before out_after : Stream) (status : Status) : Type 0 where
   pub bytes : List ℕ
   pub took : Consumes console_before.bytes console_after.bytes bytes
   pub made : ℕ
   pub leaves : DriveLeaves image bytes steps made status (Some []) out_before.bytes out_after.bytes
   pub calls : console_after.calls ≤ console_before.calls + length bytes + in_vain status (round_run image bytes made).stop
+  pub writes : out_after.calls ≤ out_before.calls + length (round_run image bytes made).printed
 
 -- an image was driven for so many instructions: each fault has its cause, and without one the answer is that of a run. The console was
 -- asked at most once for each instruction

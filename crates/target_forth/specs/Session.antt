@@ -20,14 +20,14 @@ abbrev pub stream : Option (List ℕ) → ℕ → ℕ → Stream
 stream bytes calls faults = record { bytes = bytes; calls = calls; faults = faults }
 
 -- a machine was driven for at most n instructions, by all that the simulator says of a drive: it has come to where its run on the console's bytes has
--- come to, out has what that run printed, each fault has its cause, and each question is counted
+-- come to, out has what that run printed, each fault has its cause, and each question and each write is counted
 pub record IsDrive (start : MachineState) (n : ℕ) (console_before console_after out_before out_after : Stream) (result : Result Finish DriveError) : Type 0 where
   pub machine : MachineState
   pub run : IfSome console_before.bytes (λ bytes. OnOk result (IsDriven start n bytes machine console_after.bytes out_before.bytes out_after.bytes []))
   pub read : IfSome console_before.bytes (λ bytes. result ≡ Err Read →
       (k : ℕ) × (k < n) × IsDriven start k bytes machine console_after.bytes out_before.bytes out_after.bytes [])
   pub write : IfSome console_before.bytes (λ bytes. result ≡ Err Write → IsBrokenOff n start bytes machine console_after.bytes out_before.bytes out_after.bytes)
-  pub at_most : MadeAtMost n result start machine console_before.bytes console_after.bytes out_before.bytes out_after.bytes console_before.calls console_after.calls
+  pub at_most : MadeAtMost n result start machine console_before.bytes console_after.bytes out_before.bytes out_after.bytes console_before.calls console_after.calls out_before.calls out_after.calls
   pub finish : IfOk result (λ finish. end_told finish ≡ machine.ended)
   pub wants : result ≡ Err Read → WantsAByte machine
   pub calls : console_after.calls ≤ console_before.calls + n

@@ -63,8 +63,8 @@ pub(super) fn drives(
 }
 
 // The cells of an image, the instructions that it may make, its input, what it prints, its finish, and the numbers of the questions and of
-// the writes that fail. What is printed is written out before the question for a byte, and one byte is asked for: three questions and four
-// writes of an echo fail in turn, and a call behind the last does not come.
+// the writes that fail. What is printed is written out before the question for a byte, and one byte is asked for: three questions and three
+// writes of an echo fail in turn, and a call behind the last does not come: where nothing waits, nothing is written.
 const IMAGES: &str = r#"
 8048 C000 6023 6103                               | 7   |    | H     | steps used
 8048 C000 6023 6103                               | 8   |    | HH    | steps used
@@ -84,7 +84,7 @@ A000 6C00 C000 6023 8000 C004 6023                | 99  |    | ~     | halted 0
 8041 C000 6023 6103 C002 6C00 C000 6023 6103 0000 | 999 | xy |       | write fault   |   | 1
 8041 C000 6023 6103 C002 6C00 C000 6023 6103 0000 | 999 | xy | A     | write fault   |   | 2
 8041 C000 6023 6103 C002 6C00 C000 6023 6103 0000 | 999 | xy | AxA   | write fault   |   | 3
-8041 C000 6023 6103 C002 6C00 C000 6023 6103 0000 | 999 | xy | AxAyA | write fault   |   | 4
+8041 C000 6023 6103 C002 6C00 C000 6023 6103 0000 | 999 | xy | AxAyA | input ended   |   | 4
 8041 C000 6023 6103 C002 6C00 C000 6023 6103 0000 | 999 | xy | AxAyA | input ended   |   | 5
 "#;
 

@@ -10,6 +10,7 @@ loop-made-init g c =
     let left = g.C.Source.left c.args.console.now in
     let before = g.O.Sink.held c.args.out.now in
     let calls = g.C.Source.calls c.args.console.now in
+    let writes = g.O.Sink.calls c.args.out.now in
     record {
       room = search rules;
       console_faults = search rules;
@@ -18,7 +19,7 @@ loop-made-init g c =
       over = λ end e. e;
       within = omega arith;
       quiet = λ h. refl;
-      at = subst (λ b. Underway m left 0 m left before before b calls calls) (sym c.new-buffer.ensures) (begins m left before calls);
+      at = subst (λ b. Underway m left 0 m left before before b calls calls writes writes) (sym c.new-buffer.ensures) (begins m left before calls writes);
     }
 
 pub loop-made-preserved : goal.loop-made-preserved
@@ -55,14 +56,14 @@ returns-in_err-end-clause-write g c =
 
 pub returns-in_err-flush-clause-at_most : goal.returns-in_err-flush-clause-at_most
 returns-in_err-flush-clause-at_most g c =
-    made_front c.args.n _ (omega arith) c.in_ok-end.ensures.room (inl (c.in-Some.end, sym c.in_ok-end.ensures.ended ∙ c.in-Some.is)) (search rules)
-    (drives_on c.loop-made.invariant.at c.in_ok-end.ensures.run c.in_ok-end.ensures.over c.in_ok-end.ensures.given) c.in_err-flush.ensures.bytes
+    made_front c.args.n _ (omega arith) c.in_ok-end.ensures.room c.in_err-flush.ensures.waited (inl (c.in-Some.end, sym c.in_ok-end.ensures.ended ∙ c.in-Some.is)) (search rules)
+    (drives_on c.loop-made.invariant.at c.in_ok-end.ensures.run c.in_ok-end.ensures.over c.in_ok-end.ensures.given) c.in_err-flush.ensures.bytes c.flush.ensures.writes
 
 pub returns-in_err-flush-clause-write : goal.returns-in_err-flush-clause-write
 returns-in_err-flush-clause-write g c =
     told_when (g.C.Source.left c.args.console.now) _ _
     (λ e.
-    front_here _ c.args.n (omega arith) c.in_ok-end.ensures.room (inl (c.in-Some.end, sym c.in_ok-end.ensures.ended ∙ c.in-Some.is))
+    front_here _ c.args.n (omega arith) c.in_ok-end.ensures.room c.in_err-flush.ensures.waited (inl (c.in-Some.end, sym c.in_ok-end.ensures.ended ∙ c.in-Some.is))
     (drives_on c.loop-made.invariant.at c.in_ok-end.ensures.run c.in_ok-end.ensures.over c.in_ok-end.ensures.given) c.in_err-flush.ensures.bytes)
 
 pub returns-in-Some-clause-run : goal.returns-in-Some-clause-run
@@ -72,24 +73,24 @@ returns-in-Some-clause-run g c =
 
 pub returns-in-Some-clause-at_most : goal.returns-in-Some-clause-at_most
 returns-in-Some-clause-at_most g c =
-    made_all c.args.n _ (omega arith) (λ e. cc) (λ e. cc) (λ e. cc) (drives_on c.loop-made.invariant.at c.in_ok-end.ensures.run c.in_ok-end.ensures.over c.in_ok-end.ensures.given) c.in_ok-flush.ensures.bytes
+    made_all c.args.n _ (omega arith) (λ e. cc) (λ e. cc) (λ e. cc) (drives_on c.loop-made.invariant.at c.in_ok-end.ensures.run c.in_ok-end.ensures.over c.in_ok-end.ensures.given) c.in_ok-flush.ensures.bytes c.flush.ensures.writes
 
 pub returns-in_err-flush-2-clause-at_most : goal.returns-in_err-flush-2-clause-at_most
 returns-in_err-flush-2-clause-at_most g c =
-    made_front c.args.n _ c.loop-made.invariant.within c.loop-made.invariant.room (inr (omega arith)) (search rules) c.loop-made.invariant.at c.in_err-flush-2.ensures.bytes
+    made_front c.args.n _ c.loop-made.invariant.within c.loop-made.invariant.room c.in_err-flush-2.ensures.waited (inr (omega arith)) (search rules) c.loop-made.invariant.at c.in_err-flush-2.ensures.bytes c.flush-2.ensures.writes
 
 pub returns-in_err-flush-2-clause-write : goal.returns-in_err-flush-2-clause-write
 returns-in_err-flush-2-clause-write g c =
-    told_when (g.C.Source.left c.args.console.now) _ _ (λ e. front_here _ c.args.n c.loop-made.invariant.within c.loop-made.invariant.room (inr (omega arith)) c.loop-made.invariant.at c.in_err-flush-2.ensures.bytes)
+    told_when (g.C.Source.left c.args.console.now) _ _ (λ e. front_here _ c.args.n c.loop-made.invariant.within c.loop-made.invariant.room c.in_err-flush-2.ensures.waited (inr (omega arith)) c.loop-made.invariant.at c.in_err-flush-2.ensures.bytes)
 
 pub returns-in-Some-ended-clause-run : goal.returns-in-Some-ended-clause-run
 returns-in-Some-ended-clause-run g c = run_here _ c.args.n (omega arith) c.loop-made.invariant.at c.in_ok-flush-2.ensures.bytes
 
 pub returns-in-Some-ended-clause-at_most : goal.returns-in-Some-ended-clause-at_most
-returns-in-Some-ended-clause-at_most g c = made_all c.args.n _ c.loop-made.invariant.within (λ e. cc) (λ e. cc) (λ e. cc) c.loop-made.invariant.at c.in_ok-flush-2.ensures.bytes
+returns-in-Some-ended-clause-at_most g c = made_all c.args.n _ c.loop-made.invariant.within (λ e. cc) (λ e. cc) (λ e. cc) c.loop-made.invariant.at c.in_ok-flush-2.ensures.bytes c.flush-2.ensures.writes
 
 pub returns-in-None-clause-run : goal.returns-in-None-clause-run
 returns-in-None-clause-run g c = run_here _ c.args.n (omega arith) c.loop-made.invariant.at c.in_ok-flush-2.ensures.bytes
 
 pub returns-in-None-clause-at_most : goal.returns-in-None-clause-at_most
-returns-in-None-clause-at_most g c = made_all c.args.n _ c.loop-made.invariant.within (λ e. omega arith) (λ e. cc) (λ e. cc) c.loop-made.invariant.at c.in_ok-flush-2.ensures.bytes
+returns-in-None-clause-at_most g c = made_all c.args.n _ c.loop-made.invariant.within (λ e. omega arith) (λ e. cc) (λ e. cc) c.loop-made.invariant.at c.in_ok-flush-2.ensures.bytes c.flush-2.ensures.writes

@@ -15,5 +15,6 @@ invariant-loop-made g l =
       within : l._made ≤ l.n;
       quiet : l.initial.machine.given ≡ Some None → l.console ≡ l.initial.console;
       at : Underway l.initial.machine (g.C.Source.left l.initial.console) l._made l.machine (g.C.Source.left l.console) (g.O.Sink.held l.initial.out)
-          (g.O.Sink.held l.out) l.buffer (g.C.Source.calls l.initial.console) (g.C.Source.calls l.console);
+          (g.O.Sink.held l.out) l.buffer (g.C.Source.calls l.initial.console) (g.C.Source.calls l.console)
+          (g.O.Sink.calls l.initial.out) (g.O.Sink.calls l.out);
     }

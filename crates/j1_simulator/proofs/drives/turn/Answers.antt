@@ -8,8 +8,8 @@ use Rattle.j1_simulator.proofs.RunSteps.{key_turned, stepped}
 use Rattle.j1_simulator.proofs.Turns.{steps_keep_end, wanting_keeps_end, wants, ended_is, flushed, noted, on_err, not_flushed, not_asked, none_taken, asked_taken, given_taken, stays, used, has_its_byte}
 use Rattle.j1_simulator.proofs.FlushedOutput.{grows_flushed, grows_then}
 use Rattle.j1_simulator.proofs.Questions.{asked_once, asked_badly}
-use Rattle.j1_simulator.proofs.WaitingBytes.{key_silent}
-use Rattle.j1_simulator.proofs.TurnEnd.{key_follows, key_fills, on_ok_follows, on_err_fills}
+use Rattle.j1_simulator.proofs.WaitingBytes.{key_silent, stepped_prints}
+use Rattle.j1_simulator.proofs.TurnEnd.{key_follows, key_fills, on_ok_follows, on_err_fills, on_ok_few, on_err_few, key_ok_few, key_err_few}
 use Rattle.j1_simulator.proofs.drives.turn.Goals as goal
 
 pub returns-in_err-flush-in-WantsByte-clause-run : goal.returns-in_err-flush-in-WantsByte-clause-run
@@ -20,7 +20,8 @@ returns-in_err-flush-in-WantsByte-clause-run g c =
       calls = omega arith;
       ends = λ configuration fits data_start before left after l a.
           let e : c.from_residual.result ≡ Err Write = search rules in
-          not_flushed c.from_residual.result configuration fits c.args.machine.now c.step.new.self data_start left after before _ _ _ _ e l a w.1 w.0 c.in_err-flush-in-WantsByte.ensures.bytes;
+          not_flushed c.from_residual.result configuration fits c.args.machine.now c.step.new.self data_start left after before _ _ _ _ e l a w.1 w.0 c.in_err-flush-in-WantsByte.ensures.bytes
+          _ _ c.in_err-flush-in-WantsByte.ensures.waited c.flush.ensures.writes;
     }
 
 pub returns-in_err-byte-in-WantsByte-clause-run : goal.returns-in_err-byte-in-WantsByte-clause-run
@@ -31,7 +32,7 @@ returns-in_err-byte-in-WantsByte-clause-run g c =
       calls = asked_badly _ _ None _ _ (search rules) c.ask.ensures.calls;
       ends = λ configuration fits data_start before left after l a.
           let e : c.from_residual-in_err-byte-in-WantsByte.result ≡ Err Read = search rules in
-          not_asked c.from_residual-in_err-byte-in-WantsByte.result configuration fits c.args.machine.now c.step.new.self data_start left after before _ _ _ _ e l a w.1 c.in_ok-flush-in-WantsByte.ensures.bytes;
+          not_asked c.from_residual-in_err-byte-in-WantsByte.result configuration fits c.args.machine.now c.step.new.self data_start left after before _ _ _ _ e l a w.1 c.in_ok-flush-in-WantsByte.ensures.bytes _ _ c.flush.ensures.writes;
     }
 
 pub returns-in_err-byte-in-WantsByte-clause-wants : goal.returns-in_err-byte-in-WantsByte-clause-wants
@@ -65,7 +66,11 @@ returns-in_ok-byte-in-WantsByte-clause-run g c =
           (key_follows c.note.result c.args.machine.now c.step_apart.new.self configuration (advance data_start configuration) _ _ _ c.step_apart.result
           c.in_ok-flush-in-WantsByte.ensures.empty silent t.given c.note.ensures.waits)
           (key_fills c.note.result c.step_apart.new.self configuration (advance data_start configuration) _ _ c.step_apart.result silent
-          c.note.ensures.full);
+          c.note.ensures.full) _ _
+          (key_ok_few c.note.result data_start configuration _ _ _ c.step_apart.result _ _ _ c.in_ok-flush-in-WantsByte.ensures.empty silent c.flush.ensures.writes
+          c.note.ensures.fewer)
+          (key_err_few c.note.result data_start configuration _ _ c.step_apart.result _ _ _ c.in_ok-flush-in-WantsByte.ensures.empty silent
+          c.flush.ensures.writes c.note.ensures.writes);
     }
 
 pub returns-in_ok-byte-in-WantsByte-clause-given : goal.returns-in_ok-byte-in-WantsByte-clause-given
@@ -105,13 +110,16 @@ returns-in_default g c =
         takes = given_taken c.args.machine.now c.step.new.self _ _ c.step.ensures.due c.step.ensures.step;
         ends = λ configuration fits data_start before left after l a.
             let t = stepped configuration fits c.args.machine.now c.step.new.self data_start _ left after before _ _ a c.step.ensures.due c.step.ensures.step c.in_default.not-WantsByte l in
+            let printed = stepped_prints configuration fits c.args.machine.now c.step.new.self data_start _ left after before _ _ a c.step.ensures.due c.step.ensures.step c.in_default.not-WantsByte l in
             noted c.note-in_default.result _ c.args.machine.now c.args.buffer.now configuration fits c.step.new.self data_start after before _ _ _ _ _ t
             c.note-in_default.ensures.err (c.note-in_default.ensures.ok before (advance data_start configuration).printed t.at.out)
             (c.note-in_default.ensures.front before (advance data_start configuration).printed t.at.out)
             (on_ok_follows c.note-in_default.result configuration fits c.args.machine.now c.step.new.self data_start _ left after before _ _ _ a
             c.step.ensures.due c.step.ensures.step c.in_default.not-WantsByte l t.at.left_is c.note-in_default.ensures.waits)
             (on_err_fills c.note-in_default.result configuration fits c.args.machine.now c.step.new.self data_start _ left after before _ _ a c.step.ensures.due
-            c.step.ensures.step c.in_default.not-WantsByte l t.at.left_is c.note-in_default.ensures.full);
+            c.step.ensures.step c.in_default.not-WantsByte l t.at.left_is c.note-in_default.ensures.full) _ _
+            (on_ok_few c.note-in_default.result configuration (advance data_start configuration) _ _ _ _ _ printed c.note-in_default.ensures.fewer)
+            (on_err_few c.note-in_default.result configuration (advance data_start configuration) _ _ _ _ printed c.note-in_default.ensures.writes);
       };
     }
 
