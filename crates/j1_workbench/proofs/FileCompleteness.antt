@@ -20,6 +20,10 @@ use Rattle.j1_workbench.specs.Images.{IsBadImage, IsImageFile}
 use Rattle.j1_workbench.specs.Executing.{RunsImage, Executes}
 use Rattle.j1_workbench.specs.ListingImage.{Lists}
 use Rattle.j1_workbench.specs.Assembling.{IsBadListing, AssemblesFile}
+use Rattle.target_forth.specs.Kernel.{kernel}
+use Rattle.j1_workbench.specs.Serving.{ended_status, RunsKernel}
+use Rattle.j1_workbench.specs.WritingMemory.{WritesMemory}
+use Rattle.j1_workbench.specs.WritingKernel.{WritesKernel}
 use Rattle.j1_workbench.specs.Completeness.{Tells, FailsNowhere, IsCompleteFile}
 
 -- ---- what a command finds in a file that is told
@@ -137,6 +141,32 @@ pub built_runs : (file : List ℕ) (steps : ℕ) (before after : Surroundings) (
 built_runs file steps before after status image same told ran =
     let content = told_text before.folder.files file (image_bytes image) ran.is_in.content told ran.is_in.read.holds in
     subst (λ i. Drives i steps before.console after.console before.out after.out status) (same ran.image image (sym ran.is_in.is ∙ content)) ran.drives
+
+pub memory_complete : ImageFileLaws → (name file content : List ℕ) (before after : Surroundings) (status : Status) →
+    WritesMemory name file before after status → Tells before.folder.files name content → FailsNowhere before after → (Rose before.folder.write_faults after.folder.write_faults → ⊥) →
+    IsCompleteFile 32768 IsBadImage IsFile content status (λ s. s ≡ Done)
+unfolding WritesMemory
+memory_complete laws name file content before after status (quiet, inl refused) told calm writes =
+    by_refusal 32768 IsBadImage IsFile (images_apart laws) content status (λ s. s ≡ Done) (refused_file 32768 IsBadImage name content before.folder after.folder status told calm.folder refused.1)
+memory_complete laws name file content before after status (quiet, inr wrote) told calm writes =
+    let is = image_told name content before.folder wrote.image told wrote.is_in in
+    elim (done_put 2 file _ before.folder after.folder status wrote.written writes) [
+      | inl wanting ↦ by_refusal 32768 IsBadImage IsFile (images_apart laws) content status (λ s. s ≡ Done) (inl wanting)
+      | inr done ↦ by_answer 32768 IsBadImage IsFile (images_apart laws) content status (λ s. s ≡ Done) is.0 is.1 done
+    ]
+
+-- ---- the kernel's image
+
+pub kernel_complete : (file : List ℕ) (before after : Surroundings) (status : Status) →
+    WritesKernel file before after status → (Rose before.folder.write_faults after.folder.write_faults → ⊥) → (status ≡ OutOfMemory) ⊎ (status ≡ Done)
+unfolding WritesKernel
+kernel_complete file before after status (quiet, inl wanting) calm = inl wanting.0
+kernel_complete file before after status (quiet, inr wrote) calm = done_put 1 file _ before.folder after.folder status wrote.1 calm
+
+pub kernel_file_runs : FilesAreImages → (file : List ℕ) (steps : ℕ) (before after : Surroundings) (status : Status) →
+    Tells before.folder.files file (image_bytes kernel) → RunsImage file steps before after status → RunsKernel steps before after (ended_status status)
+kernel_file_runs same file steps before after status told ran =
+    record { driven = status; drives = built_runs file steps before after status kernel same told ran; answer = refl }
 
 -- ---- assembly texts
 

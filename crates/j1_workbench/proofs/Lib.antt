@@ -8,6 +8,7 @@ mod NetCommand
 mod Makes
 mod Made
 mod Headline
+mod WritingFiles
 mod FileCompleteness
 mod Sessions
 mod Completeness

@@ -21,5 +21,7 @@ pub mod ListingImage
 pub mod Assembling
 pub mod Summary
 pub mod Making
+pub mod WritingMemory
+pub mod WritingKernel
 pub mod Answers
 pub mod Completeness

@@ -19,6 +19,8 @@ use crate::running::run;
 use crate::serving::{serve, session_steps};
 use crate::status::Status;
 use crate::words::{Command, command_of};
+use crate::writing_kernel::write_kernel;
+use crate::writing_memory::write_memory;
 use outside_io::{Folder, Sink, Source};
 use std::alloc::Global;
 
@@ -74,5 +76,9 @@ pub fn answer<F: Folder, C: Source, O: Sink>(
         Some(Command::Make { seed, count }) => {
             make(alloc, seed, count, steps_allowed(None), out)
         }
+        Some(Command::WriteMemory { image, text }) => {
+            answered(write_memory(alloc, image, text, files))
+        }
+        Some(Command::WriteKernel { image }) => answered(write_kernel(alloc, image, files)),
     }
 }

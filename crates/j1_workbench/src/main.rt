@@ -28,6 +28,8 @@ mod status;
 mod tests;
 mod words;
 mod workbench;
+mod writing_kernel;
+mod writing_memory;
 
 use outside_io::{StdFolder, StdSink, StdSource};
 pub use status::{Status, status_number};
