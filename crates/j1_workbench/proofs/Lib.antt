@@ -9,6 +9,7 @@ mod Makes
 mod Made
 mod Headline
 mod WritingFiles
+mod TraceCommand
 mod FileCompleteness
 mod Sessions
 mod Completeness

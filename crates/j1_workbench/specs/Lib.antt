@@ -23,5 +23,6 @@ pub mod Summary
 pub mod Making
 pub mod WritingMemory
 pub mod WritingKernel
+pub mod Tracing
 pub mod Answers
 pub mod Completeness

@@ -20,6 +20,7 @@ pub data Request : Type 0 where
   Net : (file : List ℕ) → Request
   WriteMemory : (image text : List ℕ) → Request
   WriteKernel : (image : List ℕ) → Request
+  Trace : (image : List ℕ) (steps : Option ℕ) → Request
 
 -- no more words, or `--steps` and a number of at most most
 abbrev pub steps_of : ℕ → List (List ℕ) → Option (Option ℕ)
@@ -67,6 +68,7 @@ request_for command words =
     else if bytes_eq command (codes "net") then one_name Net words
     else if bytes_eq command (codes "hex") then two_names WriteMemory words
     else if bytes_eq command (codes "kernel") then one_name WriteKernel words
+    else if bytes_eq command (codes "trace") then name_and_steps 1000000 Trace words
     else None
 
 -- what these words ask for, where they have the form of a command

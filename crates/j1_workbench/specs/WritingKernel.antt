@@ -11,4 +11,5 @@ use Rattle.j1_workbench.specs.Files.{IsPut}
 unfoldable pub WritesKernel : List ℕ → Surroundings → Surroundings → Status → Type 0
 WritesKernel file before after status =
     IsQuiet before after
-    × (((status ≡ OutOfMemory) × (after.folder ≡ before.folder)) ⊎ (IsImage kernel × IsPut 1 file (image_bytes kernel) before.folder after.folder status))
+    × (((status ≡ OutOfMemory) × (after.folder ≡ before.folder))
+    ⊎ (IsImage kernel × IsPut 1 file (image_bytes kernel) before.folder after.folder status))

@@ -19,4 +19,5 @@ pub record WritesMemoryText (name file : List ℕ) (before after : FolderState) 
 unfoldable pub WritesMemory : List ℕ → List ℕ → Surroundings → Surroundings → Status → Type 0
 WritesMemory name file before after status =
     IsQuiet before after
-    × ((IsOnlyRead 1 before.folder after.folder × IsRefusedImage name before.folder after.folder status) ⊎ WritesMemoryText name file before.folder after.folder status)
+    × ((IsOnlyRead 1 before.folder after.folder × IsRefusedImage name before.folder after.folder status)
+    ⊎ WritesMemoryText name file before.folder after.folder status)

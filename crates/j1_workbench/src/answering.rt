@@ -18,6 +18,7 @@ use crate::networking::net;
 use crate::running::run;
 use crate::serving::{serve, session_steps};
 use crate::status::Status;
+use crate::tracing::{trace_image, trace_steps};
 use crate::words::{Command, command_of};
 use crate::writing_kernel::write_kernel;
 use crate::writing_memory::write_memory;
@@ -80,5 +81,9 @@ pub fn answer<F: Folder, C: Source, O: Sink>(
             answered(write_memory(alloc, image, text, files))
         }
         Some(Command::WriteKernel { image }) => answered(write_kernel(alloc, image, files)),
+        Some(Command::Trace { image, steps }) => {
+            let steps = trace_steps(steps);
+            answered(trace_image(alloc, image, steps, files, console, out))
+        }
     }
 }

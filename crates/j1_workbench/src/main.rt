@@ -26,6 +26,7 @@ mod source;
 mod status;
 #[cfg(test)]
 mod tests;
+mod tracing;
 mod words;
 mod workbench;
 mod writing_kernel;

@@ -26,5 +26,6 @@ mod rows;
 mod sessions;
 mod source_texts;
 mod sources;
+mod trace;
 mod word_edges;
 mod words;

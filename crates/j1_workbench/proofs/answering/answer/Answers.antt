@@ -2,7 +2,7 @@ use Rattle.std.proofs.Common.{rules}
 use Rattle.std.specs.Prelude.{map}
 use Rattle.std.specs.String.{string_bytes}
 use Rattle.j1_workbench.specs.Surroundings.{stream, folder}
-use Rattle.j1_workbench.proofs.Commands.{does_build, does_list, does_assemble, does_certify, does_bound, does_net, does_evaluate, does_forth, does_make, does_memory, does_kernel}
+use Rattle.j1_workbench.proofs.Commands.{does_build, does_list, does_assemble, does_certify, does_bound, does_net, does_evaluate, does_forth, does_make, does_memory, does_kernel, does_trace}
 use Rattle.j1_workbench.proofs.answering.answer.Goals as goal
 
 pub returns-in-Some-Certify : goal.returns-in-Some-Certify
@@ -59,3 +59,8 @@ returns-in-Some-WriteKernel g c =
     does_kernel _ c.in-Some-WriteKernel.image.now _ _ _ c.answered-in-Some-WriteKernel.result (search rules) c.answered-in-Some-WriteKernel.ensures
     (c.write_kernel.ensures (stream (g.C.Source.left c.args.console.now) (g.C.Source.calls c.args.console.now) (g.C.Source.faults c.args.console.now))
     (stream (g.O.Sink.held c.args.out.now) (g.O.Sink.calls c.args.out.now) (g.O.Sink.faults c.args.out.now)))
+
+pub returns-in-Some-Trace : goal.returns-in-Some-Trace
+returns-in-Some-Trace g c =
+    does_trace _ c.in-Some-Trace.image.now c.in-Some-Trace.steps c.trace_steps-steps.result _ _ c.trace_image.result c.answered-in-Some-Trace.result (search rules) c.trace_steps-steps.ensures
+    c.answered-in-Some-Trace.ensures c.trace_image.ensures
