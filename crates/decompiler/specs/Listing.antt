@@ -61,9 +61,13 @@ abbrev pub comment_of : Option (List ℕ) → List (List ℕ)
 comment_of None = []
 comment_of (Some name) = codes "\\" ∷ name ∷ []
 
+-- a cell's instruction, and its name
+abbrev pub text_fields : ℕ → List (List ℕ)
+text_fields cell = instruction_fields (decoded cell) ++ comment_of (name_in cell named_cells)
+
 -- the fields of a code line
 abbrev pub code_fields : ℕ → ℕ → List (List ℕ)
-code_fields number cell = place number ∷ (instruction_fields (decoded cell) ++ comment_of (name_in cell named_cells))
+code_fields number cell = place number ∷ text_fields cell
 
 abbrev pub code_rows : ℕ → List ℕ → List (List (List ℕ))
 code_rows number [] = []

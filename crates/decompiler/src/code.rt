@@ -4,7 +4,7 @@ ghost use Rattle.std.specs.List.{flat_map};
 ghost use Rattle.j1_table.specs.Fields.{has_bit, return_move_of, data_move_of};
 ghost use Rattle.j1_table.specs.Instruction.{decoded, encoded};
 ghost use Rattle.j1_assembler.specs.Names.{named_cells, name_in};
-ghost use Rattle.decompiler.specs.Listing.{hex4, spaced, flag, move_field, flag_fields, move_fields, alu_options, alu_by, instruction_fields, comment_of, code_fields, code_rows, line_text};
+ghost use Rattle.decompiler.specs.Listing.{hex4, spaced, flag, move_field, flag_fields, move_fields, alu_options, alu_by, instruction_fields, comment_of, text_fields, code_fields, code_rows, line_text};
 
 use crate::digits::{add_field, add_hex4, add_place};
 use j1_assembler::{name_of_cell, operation_name};
@@ -124,14 +124,22 @@ fn add_comment(text: &mut Vec<u8>, cell: u16) -> Result<(), AllocError>
     }
 }
 
+/// Appends the instruction that a cell stands for, and its name as a comment, if it has one; each field behind a space.
+#[tactic(auto, using(crate::proofs::Spaced::spaced_append))]
+pub fn add_instruction(text: &mut Vec<u8>, cell: u16) -> Result<(), AllocError>
+    ensures { OnOk result (text.new.items ≡ text.old.items ++ flat_map spaced (text_fields cell)) }
+{
+    add_instr(text, decode(cell), cell)?;
+    add_comment(text, cell)
+}
+
 // Appends a code line.
 #[tactic(auto, using(crate::proofs::Spaced::spaced_append))]
 fn add_code_line(text: &mut Vec<u8>, number: u16, cell: u16) -> Result<(), AllocError>
     ensures { OnOk result (text.new.items ≡ text.old.items ++ line_text (code_fields number cell)) }
 {
     add_place(text, number)?;
-    add_instr(text, decode(cell), cell)?;
-    add_comment(text, cell)?;
+    add_instruction(text, cell)?;
     text.extend_from_slice(b"\n")
 }
 

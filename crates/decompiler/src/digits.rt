@@ -4,7 +4,8 @@ ghost use Rattle.decompiler.specs.Listing.{digit, hex2, hex4, place, spaced};
 
 use std::alloc::AllocError;
 
-fn digit(n: u8) -> u8
+/// A hexadecimal digit, in upper case.
+pub fn digit(n: u8) -> u8
     requires { n < 16 }
     ensures { result ≡ digit n }
 {

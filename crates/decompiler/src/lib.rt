@@ -9,5 +9,7 @@ mod digits;
 mod laws;
 mod text;
 
+pub use code::add_instruction;
+pub use digits::{add_field, add_hex2, add_hex4, add_place, digit};
 pub use laws::listings_assemble;
 pub use text::listing;

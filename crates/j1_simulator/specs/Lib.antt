@@ -9,3 +9,4 @@ pub mod Drive
 pub mod Turn
 pub mod Laws
 pub mod PortAccess
+pub mod RegisterView

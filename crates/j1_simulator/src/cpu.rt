@@ -6,13 +6,15 @@ ghost use Rattle.j1_simulator.specs.Step.{Advances, step as step_of, effect_at, 
 ghost use Rattle.j1_simulator.specs.RoundMachine.{round_storage, empty_ring, ring_top};
 ghost use Rattle.j1_simulator.specs.MachineState.{WentOn, observation_of, with_key};
 ghost use Rattle.j1_simulator.specs.PortAccess.{step_given};
+ghost use Rattle.j1_simulator.specs.RegisterView.{registers_of, data_cell};
 
 use crate::effects::{Effect, Output, Pause, ReturnWrite};
 use crate::operate::{new_top, next_pc_of};
 use crate::plans::plan;
 use crate::reach::reach;
+use crate::registers::Registers;
 use crate::rings::Ring;
-use console_ports::Fence;
+use console_ports::{Access, Fence, access};
 use j1_table::{Instr, decode};
 use std::marker::Model;
 
@@ -179,6 +181,31 @@ impl Cpu {
         ensures { result ≡ ring_top self.now.data_stack }
     {
         self.data_stack.top()
+    }
+
+    /// Registers, tops and pointers, before the next instruction.
+    pub fn registers(&self) -> Registers
+        ensures { result ≡ registers_of self.now }
+    {
+        Registers {
+            place: self.pc,
+            cell: self.memory[usize::from(self.pc)],
+            t: self.t,
+            n: self.data_stack.top(),
+            r: self.return_stack.top(),
+            data_pointer: self.data_stack.at(),
+            return_pointer: self.return_stack.at(),
+        }
+    }
+
+    /// The cell at the address T, where that is in data space.
+    pub fn data_cell(&self, fence: Fence) -> Option<u16>
+        ensures { result ≡ data_cell fence.data_start self.now }
+    {
+        match access(self.t, fence, false) {
+            Access::Data(i) => Some(self.memory[i]),
+            _ => None,
+        }
     }
 
     /// One instruction, of this effect, where a fetch gives this cell and no memory changes.

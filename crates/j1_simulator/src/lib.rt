@@ -19,6 +19,7 @@ mod memory;
 mod operate;
 mod plans;
 mod reach;
+mod registers;
 mod rings;
 
 pub use accesses::Accesses;
@@ -28,3 +29,5 @@ pub use laws::{
     call_then_return, drive_is_run, literal_then_drop, runs_only_grow, steps_are_the_run,
 };
 pub use machines::Machine;
+pub use memory::memory_cells;
+pub use registers::Registers;

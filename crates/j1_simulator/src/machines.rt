@@ -4,6 +4,7 @@ ghost use Rattle.j1_table.specs.Instruction.{decoded};
 ghost use Rattle.j1_simulator.specs.Effect.{effect};
 ghost use Rattle.j1_simulator.specs.declared.ends.Event.TheVariants.{Went};
 ghost use Rattle.j1_simulator.specs.PortAccess.{next_accesses, OneAtPort, step_given};
+ghost use Rattle.j1_simulator.specs.RegisterView.{registers_of, data_cell};
 ghost use Rattle.j1_simulator.specs.MachineState.{AnswersStep, key_of, EndsBy, event_of, end_of_output, machine_start, Steps, WantsAByte, GivenIsDue};
 
 use crate::accesses::Accesses;
@@ -12,6 +13,7 @@ use crate::cpu::Cpu;
 use crate::effects::{Output, Pause};
 use crate::ends::{End, Event};
 use crate::memory::memory_cells;
+use crate::registers::Registers;
 use console_ports::Fence;
 use j1_table::{Image, Instr};
 use std::alloc::{AllocError, Global};
@@ -226,6 +228,20 @@ impl Machine {
                 None
             },
         }
+    }
+
+    /// What stands in registers and stacks before the next instruction.
+    pub fn registers(&self) -> Registers
+        ensures { result ≡ registers_of self.now.core }
+    {
+        self.cpu.registers()
+    }
+
+    /// The cell at the address T, where that is in data space: what a fetch of the next instruction gives there.
+    pub fn data_cell(&self) -> Option<u16>
+        ensures { result ≡ data_cell self.now.data_start self.now.core }
+    {
+        self.cpu.data_cell(self.fence)
     }
 
     /// Makes the next instruction, whose one access is at a port between machines (byte addresses 16416 to 16446), and

@@ -19,7 +19,7 @@ use Rattle.step_certifier.specs.Law.{EndsOnChip}
 use Rattle.j1_workbench.specs.declared.status.Status.{Status}
 use Rattle.j1_workbench.specs.declared.status.Status.TheVariants.{BadWords, OutOfMemory, BoundRefused}
 use Rattle.j1_workbench.specs.declared.answer.Answer.{Answer}
-use Rattle.j1_workbench.specs.Words.{Request, Run, Build, Execute, ListImage, Assemble, Certify, Evaluate, Forth, Make, Bound, Net, request_of, steps_allowed}
+use Rattle.j1_workbench.specs.Words.{Request, Run, Build, Execute, ListImage, Assemble, Certify, Evaluate, Forth, Make, Bound, Net, WriteMemory, WriteKernel, Trace, request_of, steps_allowed}
 use Rattle.j1_workbench.specs.Notes.{named}
 use Rattle.j1_workbench.specs.Surroundings.{FolderState, Surroundings, IsOnlyRead}
 use Rattle.j1_workbench.specs.Sources.{HasCertificate, IsRefusedSource, IsCertifiedSource}
@@ -33,6 +33,9 @@ use Rattle.j1_workbench.specs.Executing.{Executes}
 use Rattle.j1_workbench.specs.ListingImage.{Lists}
 use Rattle.j1_workbench.specs.Assembling.{AssemblesFile}
 use Rattle.j1_workbench.specs.Making.{Makes}
+use Rattle.j1_workbench.specs.WritingMemory.{WritesMemory}
+use Rattle.j1_workbench.specs.WritingKernel.{WritesKernel}
+use Rattle.j1_workbench.specs.Tracing.{trace_steps, Traces}
 use Rattle.j1_workbench.specs.Certifying.{Writes, Certifies}
 use Rattle.j1_workbench.specs.Bounding.{Bounds}
 use Rattle.j1_workbench.specs.Networking.{Nets}
@@ -257,3 +260,25 @@ unfolding Does
 does_forth request steps allowed before after status answer asked few same serves =
     subst (λ a. Does request before after a.status (named a.name)) (sym same)
     (subst (λ r. Does r before after status []) (sym asked) (subst (λ n. Serves n before after status) few serves))
+
+pub does_memory : (request : Option Request) (name file : List ℕ) (before after : Surroundings) (status : Status) (answer : Answer) →
+    request ≡ Some (WriteMemory name file) → answer ≡ record { status = status; name = None } → WritesMemory name file before after status →
+    Does request before after answer.status (named answer.name)
+unfolding Does
+does_memory request name file before after status answer asked is writes =
+    subst (λ a. Does request before after a.status (named a.name)) (sym is) (subst (λ r. Does r before after status []) (sym asked) writes)
+
+pub does_kernel : (request : Option Request) (file : List ℕ) (before after : Surroundings) (status : Status) (answer : Answer) →
+    request ≡ Some (WriteKernel file) → answer ≡ record { status = status; name = None } → WritesKernel file before after status →
+    Does request before after answer.status (named answer.name)
+unfolding Does
+does_kernel request file before after status answer asked is writes =
+    subst (λ a. Does request before after a.status (named a.name)) (sym is) (subst (λ r. Does r before after status []) (sym asked) writes)
+
+pub does_trace : (request : Option Request) (file : List ℕ) (steps : Option ℕ) (allowed : ℕ) (before after : Surroundings) (status : Status) (answer : Answer) →
+    request ≡ Some (Trace file steps) → allowed ≡ trace_steps steps → answer ≡ record { status = status; name = None } → Traces file allowed before after status →
+    Does request before after answer.status (named answer.name)
+unfolding Does
+does_trace request file steps allowed before after status answer asked few is traces =
+    subst (λ a. Does request before after a.status (named a.name)) (sym is)
+    (subst (λ r. Does r before after status []) (sym asked) (subst (λ n. Traces file n before after status) few traces))

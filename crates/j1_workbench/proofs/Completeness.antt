@@ -33,7 +33,7 @@ use Rattle.j1_workbench.specs.Making.{Makes}
 use Rattle.j1_table.specs.Image.{Content}
 use Rattle.image_file.specs.Laws.{FilesAreImages}
 use Rattle.j1_workbench.proofs.Sessions.{session_complete}
-use Rattle.j1_workbench.proofs.FileCompleteness.{ImageFileLaws, TextLaws, told_text, not_missing, done_answer, done_put, run_answer, execute_complete, list_complete, assemble_complete, built_runs}
+use Rattle.j1_workbench.proofs.FileCompleteness.{ImageFileLaws, TextLaws, told_text, not_missing, done_answer, done_put, run_answer, execute_complete, list_complete, memory_complete, trace_complete, kernel_complete, kernel_file_runs, assemble_complete, built_runs}
 use Rattle.reference_eval.specs.declared.ends.End.TheVariants as ends
 use Rattle.reference_eval.specs.declared.ends.EvalFinish.{EvalFinish}
 use Rattle.reference_eval.specs.declared.ends.EvalFinish.TheVariants as finish
@@ -279,9 +279,13 @@ complete each sources end least none one files texts same nets = record {
   net = nets;
   build = build_complete one;
   make = make_complete;
+  memory_text = memory_complete files;
+  trace = trace_complete files;
+  kernel_file = kernel_complete;
   forth = session_complete;
   execute = execute_complete files;
   list = list_complete files;
   assemble = assemble_complete texts;
+  kernel_runs = kernel_file_runs same;
   built = λ file steps before after status image fits told ran. built_runs file steps before after status image same told ran;
 }

@@ -4,7 +4,7 @@ use Rattle.std.specs.Prelude.{codes, option_map}
 use Rattle.std.specs.Str.{bytes_eq}
 use Rattle.net_file.specs.Numbers.{is_number, value_from, number_in}
 use Rattle.net_file.specs.Net.{is_file_name}
-use Rattle.j1_workbench.specs.Words.{Request, Run, Build, Execute, ListImage, Assemble, Certify, Evaluate, Forth, Make, Bound, Net, steps_of, name_and_steps, one_name, two_names, seed_and_count, make_of, request_of}
+use Rattle.j1_workbench.specs.Words.{Request, Run, Build, Execute, ListImage, Assemble, Certify, Evaluate, Forth, Make, Bound, Net, WriteMemory, WriteKernel, Trace, steps_of, name_and_steps, one_name, two_names, seed_and_count, make_of, request_of}
 
 -- a request to make has at most 200 definitions
 abbrev CountFits : Option Request → Type 0
@@ -72,7 +72,10 @@ all_fit (command ∷ words) =
     (either (bytes_eq command (codes "forth")) _ _ (stepped Forth (λ steps. tt) (steps_of 1000000000 words))
     (either (bytes_eq command (codes "make")) _ _ (made_of words)
     (either (bytes_eq command (codes "bound")) _ _ (named_once Bound (λ name. tt) words)
-    (either (bytes_eq command (codes "net")) _ _ (named_once Net (λ name. tt) words) tt))))))))))
+    (either (bytes_eq command (codes "net")) _ _ (named_once Net (λ name. tt) words)
+    (either (bytes_eq command (codes "hex")) _ _ (named_twice WriteMemory (λ image text. tt) words)
+    (either (bytes_eq command (codes "kernel")) _ _ (named_once WriteKernel (λ image. tt) words)
+    (either (bytes_eq command (codes "trace")) _ _ (named_and_stepped 1000000 Trace (λ image steps. tt) words) tt)))))))))))))
 
 pub count_fits : (words : List (List ℕ)) (seed count : ℕ) → request_of words ≡ Some (Make seed count) → count ≤ 200
 count_fits words seed count asked = subst CountFits asked (all_fit words)

@@ -69,7 +69,7 @@ written_after name content before middle after status read wrote = record {
   absences = omega (arith, read.absences, wrote.absences);
 }
 
-put_after : (name content : List ℕ) (before middle after : FolderState) (status : Status) → IsOnlyRead 1 before middle → IsPut 1 name content middle after status → IsPut 2 name content before after status
+pub put_after : (name content : List ℕ) (before middle after : FolderState) (status : Status) → IsOnlyRead 1 before middle → IsPut 1 name content middle after status → IsPut 2 name content before after status
 put_after name content before middle after status read (inl wrote) = inl (written_after name content before middle after status read wrote)
 put_after name content before middle after status read (inr wanting) = inr (wanting.0, read_twice before middle after read wanting.1)
 

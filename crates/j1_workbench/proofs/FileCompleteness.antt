@@ -1,6 +1,6 @@
 -- Each image file and each assembly text has its one answer, where nothing outside fails.
-use Rattle.std.proofs.Common.{◌≡◌, ◌⊎◌, inl, inr, ℕ, ◌<◌, ◌≤◌, List, length, refl, sym, ap, ◌∙◌, subst, arith}
-use Rattle.std.specs.Prelude.{Option, Some, None}
+use Rattle.std.proofs.Common.{◌≡◌, ◌⊎◌, inl, inr, ℕ, zero, suc, ◌<◌, ◌≤◌, List, length, refl, sym, ap, ◌∙◌, subst, arith}
+use Rattle.std.specs.Prelude.{Option, Some, None, Result, Ok, Err}
 use Rattle.outside_io.specs.Causes.{Rose}
 use Rattle.outside_io.specs.Files.{Files, Lacks}
 use Rattle.j1_table.specs.Image.{Content}
@@ -20,6 +20,18 @@ use Rattle.j1_workbench.specs.Images.{IsBadImage, IsImageFile}
 use Rattle.j1_workbench.specs.Executing.{RunsImage, Executes}
 use Rattle.j1_workbench.specs.ListingImage.{Lists}
 use Rattle.j1_workbench.specs.Assembling.{IsBadListing, AssemblesFile}
+use Rattle.target_forth.specs.Kernel.{kernel}
+use Rattle.j1_workbench.specs.Serving.{ended_status, RunsKernel}
+use Rattle.j1_workbench.specs.WritingMemory.{WritesMemory}
+use Rattle.j1_workbench.specs.WritingKernel.{WritesKernel}
+use Rattle.j1_workbench.specs.Tracing.{traced_status, TracesImage, Traces}
+use Rattle.j1_simulator.specs.declared.ends.End.{End}
+use Rattle.j1_simulator.specs.declared.ends.End.TheVariants.{Halted, InputEnded, Outside}
+use Rattle.j1_simulator.specs.declared.ends.Finish.{Finish}
+use Rattle.j1_simulator.specs.declared.ends.Finish.TheVariants.{Ended, StepsUsed}
+use Rattle.instruction_trace.specs.declared.traces.TraceError.{TraceError}
+use Rattle.instruction_trace.specs.declared.traces.TraceError.TheVariants as trace
+use Rattle.j1_workbench.specs.Statuses.{halted_status, status_of}
 use Rattle.j1_workbench.specs.Completeness.{Tells, FailsNowhere, IsCompleteFile}
 
 -- ---- what a command finds in a file that is told
@@ -137,6 +149,63 @@ pub built_runs : (file : List ℕ) (steps : ℕ) (before after : Surroundings) (
 built_runs file steps before after status image same told ran =
     let content = told_text before.folder.files file (image_bytes image) ran.is_in.content told ran.is_in.read.holds in
     subst (λ i. Drives i steps before.console after.console before.out after.out status) (same ran.image image (sym ran.is_in.is ∙ content)) ran.drives
+
+pub memory_complete : ImageFileLaws → (name file content : List ℕ) (before after : Surroundings) (status : Status) →
+    WritesMemory name file before after status → Tells before.folder.files name content → FailsNowhere before after → (Rose before.folder.write_faults after.folder.write_faults → ⊥) →
+    IsCompleteFile 32768 IsBadImage IsFile content status (λ s. s ≡ Done)
+unfolding WritesMemory
+memory_complete laws name file content before after status (quiet, inl refused) told calm writes =
+    by_refusal 32768 IsBadImage IsFile (images_apart laws) content status (λ s. s ≡ Done) (refused_file 32768 IsBadImage name content before.folder after.folder status told calm.folder refused.1)
+memory_complete laws name file content before after status (quiet, inr wrote) told calm writes =
+    let is = image_told name content before.folder wrote.image told wrote.is_in in
+    elim (done_put 2 file _ before.folder after.folder status wrote.written writes) [
+      | inl wanting ↦ by_refusal 32768 IsBadImage IsFile (images_apart laws) content status (λ s. s ≡ Done) (inl wanting)
+      | inr done ↦ by_answer 32768 IsBadImage IsFile (images_apart laws) content status (λ s. s ≡ Done) is.0 is.1 done
+    ]
+
+-- ---- traces
+
+halted_answer : (number : ℕ) → IsRunAnswer (halted_status number)
+halted_answer zero = tt
+halted_answer (suc number) = tt
+
+ended_answer : (end : End) → IsRunAnswer (status_of (Some end))
+ended_answer (Halted number) = halted_answer number
+ended_answer InputEnded = tt
+ended_answer (Outside address) = tt
+
+trace_answer : (result : Result Finish TraceError) (P Q : Type 0) → (result ≡ Err trace.Read → P) → (result ≡ Err trace.Write → Q) → (P → ⊥) → (Q → ⊥) →
+    (traced_status result ≡ OutOfMemory) ⊎ IsRunAnswer (traced_status result)
+trace_answer (Ok (Ended end)) P Q read write no_read no_write = inr (ended_answer end)
+trace_answer (Ok StepsUsed) P Q read write no_read no_write = inr tt
+trace_answer (Err trace.Read) P Q read write no_read no_write = absurd (no_read (read refl))
+trace_answer (Err trace.Write) P Q read write no_read no_write = absurd (no_write (write refl))
+trace_answer (Err trace.OutOfMemory) P Q read write no_read no_write = inl refl
+
+pub trace_complete : ImageFileLaws → (file content : List ℕ) (steps : ℕ) (before after : Surroundings) (status : Status) →
+    Traces file steps before after status → Tells before.folder.files file content → FailsNowhere before after → IsCompleteFile 32768 IsBadImage IsFile content status IsRunAnswer
+unfolding Traces
+trace_complete laws file content steps before after status (read, inl refused) told calm =
+    by_refusal 32768 IsBadImage IsFile (images_apart laws) content status IsRunAnswer (refused_file 32768 IsBadImage file content before.folder after.folder status told calm.folder refused.0)
+trace_complete laws file content steps before after status (read, inr ran) told calm =
+    let is = image_told file content before.folder ran.image told ran.is_in in
+    elim (trace_answer ran.result _ _ ran.read_fault ran.write_fault calm.console calm.out) [
+      | inl wanting ↦ by_refusal 32768 IsBadImage IsFile (images_apart laws) content status IsRunAnswer (inl (ran.status_is ∙ wanting))
+      | inr answer ↦ by_answer 32768 IsBadImage IsFile (images_apart laws) content status IsRunAnswer is.0 is.1 (subst IsRunAnswer (sym ran.status_is) answer)
+    ]
+
+-- ---- the kernel's image
+
+pub kernel_complete : (file : List ℕ) (before after : Surroundings) (status : Status) →
+    WritesKernel file before after status → (Rose before.folder.write_faults after.folder.write_faults → ⊥) → (status ≡ OutOfMemory) ⊎ (status ≡ Done)
+unfolding WritesKernel
+kernel_complete file before after status (quiet, inl wanting) calm = inl wanting.0
+kernel_complete file before after status (quiet, inr wrote) calm = done_put 1 file _ before.folder after.folder status wrote.1 calm
+
+pub kernel_file_runs : FilesAreImages → (file : List ℕ) (steps : ℕ) (before after : Surroundings) (status : Status) →
+    Tells before.folder.files file (image_bytes kernel) → RunsImage file steps before after status → RunsKernel steps before after (ended_status status)
+kernel_file_runs same file steps before after status told ran =
+    record { driven = status; drives = built_runs file steps before after status kernel same told ran; answer = refl }
 
 -- ---- assembly texts
 

@@ -8,6 +8,8 @@ mod NetCommand
 mod Makes
 mod Made
 mod Headline
+mod WritingFiles
+mod TraceCommand
 mod FileCompleteness
 mod Sessions
 mod Completeness

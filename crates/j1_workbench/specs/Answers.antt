@@ -5,7 +5,7 @@ use Rattle.outside_io.specs.Bytes.{AppendsFront}
 use Rattle.outside_io.specs.Causes.{Rose}
 use Rattle.j1_workbench.specs.declared.status.Status.{Status}
 use Rattle.j1_workbench.specs.declared.status.Status.TheVariants.{Done, BadWords, WriteFault}
-use Rattle.j1_workbench.specs.Words.{Request, Run, Build, Execute, ListImage, Assemble, Certify, Bound, Net, Evaluate, Forth, Make, request_of, steps_allowed}
+use Rattle.j1_workbench.specs.Words.{Request, Run, Build, Execute, ListImage, Assemble, Certify, Bound, Net, Evaluate, Forth, Make, WriteMemory, WriteKernel, Trace, request_of, steps_allowed}
 use Rattle.j1_workbench.specs.Notes.{note_of}
 use Rattle.j1_workbench.specs.Surroundings.{Stream, Surroundings}
 use Rattle.j1_workbench.specs.Running.{Runs}
@@ -19,6 +19,9 @@ use Rattle.j1_workbench.specs.Networking.{Nets}
 use Rattle.j1_workbench.specs.Evaluating.{Evaluates}
 use Rattle.j1_workbench.specs.Serving.{session_steps, Serves}
 use Rattle.j1_workbench.specs.Making.{Makes}
+use Rattle.j1_workbench.specs.WritingMemory.{WritesMemory}
+use Rattle.j1_workbench.specs.WritingKernel.{WritesKernel}
+use Rattle.j1_workbench.specs.Tracing.{trace_steps, Traces}
 
 -- what each command does and answers, its note aside, which may name a definition or a file. Words without the form of a command leave
 -- everything as it was
@@ -35,6 +38,9 @@ Does (Some (Net file)) before after status name = Nets file before after status 
 Does (Some (Evaluate source steps)) before after status name = Evaluates source (steps_allowed steps) before after status name
 Does (Some (Make seed count)) before after status name = Makes seed count (steps_allowed None) before after status
 Does (Some (Forth steps)) before after status name = Serves (session_steps steps) before after status
+Does (Some (WriteMemory image text)) before after status name = WritesMemory image text before after status
+Does (Some (WriteKernel image)) before after status name = WritesKernel image before after status
+Does (Some (Trace image steps)) before after status name = Traces image (trace_steps steps) before after status
 
 -- the notes gain this line, and the answer stands. Where they can't be written, they gain a beginning of it, and the answer is
 -- WriteFault. Done has no line, and leaves the notes alone

@@ -1,7 +1,7 @@
 -- Commands of the program, as what is asked for.
 use Rattle.j1_workbench.specs.declared.words.Command.{Command}
 use Rattle.j1_workbench.specs.declared.words.Command.TheVariants as command
-use Rattle.j1_workbench.specs.Words.{Request, Run, Build, Execute, ListImage, Assemble, Certify, Evaluate, Forth, Make, Bound, Net}
+use Rattle.j1_workbench.specs.Words.{Request, Run, Build, Execute, ListImage, Assemble, Certify, Evaluate, Forth, Make, Bound, Net, WriteMemory, WriteKernel, Trace}
 
 abbrev pub requested : Command → Request
 requested (command.Run source steps) = Run source.now steps
@@ -15,3 +15,6 @@ requested (command.Forth steps) = Forth steps
 requested (command.Make seed count) = Make seed count
 requested (command.Bound source) = Bound source.now
 requested (command.Net file) = Net file.now
+requested (command.WriteMemory image text) = WriteMemory image.now text.now
+requested (command.WriteKernel image) = WriteKernel image.now
+requested (command.Trace image steps) = Trace image.now steps

@@ -18,9 +18,13 @@ use Rattle.j1_workbench.specs.Driving.{IsRunAnswer, Drives}
 use Rattle.j1_workbench.specs.Building.{Builds}
 use Rattle.j1_workbench.specs.Images.{IsBadImage}
 use Rattle.j1_workbench.specs.Executing.{RunsImage, Executes}
-use Rattle.j1_workbench.specs.Serving.{IsSessionAnswer, Serves}
+use Rattle.target_forth.specs.Kernel.{kernel}
+use Rattle.j1_workbench.specs.Serving.{IsSessionAnswer, ended_status, RunsKernel, Serves}
 use Rattle.j1_workbench.specs.ListingImage.{Lists}
 use Rattle.j1_workbench.specs.Making.{Makes}
+use Rattle.j1_workbench.specs.WritingMemory.{WritesMemory}
+use Rattle.j1_workbench.specs.WritingKernel.{WritesKernel}
+use Rattle.j1_workbench.specs.Tracing.{Traces}
 use Rattle.j1_workbench.specs.Assembling.{IsBadListing, AssemblesFile}
 use Rattle.j1_workbench.specs.Running.{Runs}
 use Rattle.j1_workbench.specs.Certifying.{Certifies}
@@ -119,9 +123,23 @@ pub record AnswersAreComplete : Type 0 where
   pub assemble : (listing file text : List ℕ) (before after : Surroundings) (status : Status) →
       AssemblesFile listing file before after status → Tells before.folder.files listing text → FailsNowhere before after → (Rose before.folder.write_faults after.folder.write_faults → ⊥) →
       IsCompleteFile 524288 IsBadListing (λ text. (image : Content) × Assembles text image) text status (λ s. s ≡ Done)
+  pub memory_text : (name file content : List ℕ) (before after : Surroundings) (status : Status) →
+      WritesMemory name file before after status → Tells before.folder.files name content → FailsNowhere before after →
+      (Rose before.folder.write_faults after.folder.write_faults → ⊥) → IsCompleteFile 32768 IsBadImage IsFile content status (λ s. s ≡ Done)
+  pub trace : (file content : List ℕ) (steps : ℕ) (before after : Surroundings) (status : Status) →
+      Traces file steps before after status → Tells before.folder.files file content → FailsNowhere before after →
+      IsCompleteFile 32768 IsBadImage IsFile content status IsRunAnswer
+  pub kernel_file : (file : List ℕ) (before after : Surroundings) (status : Status) →
+      WritesKernel file before after status → (Rose before.folder.write_faults after.folder.write_faults → ⊥) →
+      (status ≡ OutOfMemory) ⊎ (status ≡ Done)
   pub forth : (steps : ℕ) (before after : Surroundings) (status : Status) → Serves steps before after status → FailsNowhere before after → (status ≡ OutOfMemory) ⊎ IsSessionAnswer status
   -- `make` answers Done
   pub make : (seed count steps : ℕ) (before after : Surroundings) (status : Status) → Makes seed count steps before after status → FailsNowhere before after → (status ≡ OutOfMemory) ⊎ (status ≡ Done)
   -- a file that holds the bytes of an image, as `build` writes them, is run as that image: so `exec` does what `run` does
   pub built : (file : List ℕ) (steps : ℕ) (before after : Surroundings) (status : Status) (image : Content) →
       IsImage image → Tells before.folder.files file (image_bytes image) → RunsImage file steps before after status → Drives image steps before.console after.console before.out after.out status
+  -- a file that holds the bytes of the kernel's image, as `kernel` writes them, is run by `exec` as a session is, but that the end of
+  -- the input is not Done
+  pub kernel_runs : (file : List ℕ) (steps : ℕ) (before after : Surroundings) (status : Status) →
+      Tells before.folder.files file (image_bytes kernel) → RunsImage file steps before after status →
+      RunsKernel steps before after (ended_status status)

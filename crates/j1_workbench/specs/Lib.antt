@@ -21,5 +21,8 @@ pub mod ListingImage
 pub mod Assembling
 pub mod Summary
 pub mod Making
+pub mod WritingMemory
+pub mod WritingKernel
+pub mod Tracing
 pub mod Answers
 pub mod Completeness

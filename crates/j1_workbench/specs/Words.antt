@@ -18,6 +18,9 @@ pub data Request : Type 0 where
   Make : (seed count : ℕ) → Request
   Bound : (source : List ℕ) → Request
   Net : (file : List ℕ) → Request
+  WriteMemory : (image text : List ℕ) → Request
+  WriteKernel : (image : List ℕ) → Request
+  Trace : (image : List ℕ) (steps : Option ℕ) → Request
 
 -- no more words, or `--steps` and a number of at most most
 abbrev pub steps_of : ℕ → List (List ℕ) → Option (Option ℕ)
@@ -63,6 +66,9 @@ request_for command words =
     else if bytes_eq command (codes "make") then make_of words
     else if bytes_eq command (codes "bound") then one_name Bound words
     else if bytes_eq command (codes "net") then one_name Net words
+    else if bytes_eq command (codes "hex") then two_names WriteMemory words
+    else if bytes_eq command (codes "kernel") then one_name WriteKernel words
+    else if bytes_eq command (codes "trace") then name_and_steps 1000000 Trace words
     else None
 
 -- what these words ask for, where they have the form of a command

@@ -18,7 +18,10 @@ use crate::networking::net;
 use crate::running::run;
 use crate::serving::{serve, session_steps};
 use crate::status::Status;
+use crate::tracing::{trace_image, trace_steps};
 use crate::words::{Command, command_of};
+use crate::writing_kernel::write_kernel;
+use crate::writing_memory::write_memory;
 use outside_io::{Folder, Sink, Source};
 use std::alloc::Global;
 
@@ -73,6 +76,14 @@ pub fn answer<F: Folder, C: Source, O: Sink>(
         }
         Some(Command::Make { seed, count }) => {
             make(alloc, seed, count, steps_allowed(None), out)
+        }
+        Some(Command::WriteMemory { image, text }) => {
+            answered(write_memory(alloc, image, text, files))
+        }
+        Some(Command::WriteKernel { image }) => answered(write_kernel(alloc, image, files)),
+        Some(Command::Trace { image, steps }) => {
+            let steps = trace_steps(steps);
+            answered(trace_image(alloc, image, steps, files, console, out))
         }
     }
 }

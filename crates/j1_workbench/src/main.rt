@@ -26,8 +26,11 @@ mod source;
 mod status;
 #[cfg(test)]
 mod tests;
+mod tracing;
 mod words;
 mod workbench;
+mod writing_kernel;
+mod writing_memory;
 
 use outside_io::{StdFolder, StdSink, StdSource};
 pub use status::{Status, status_number};

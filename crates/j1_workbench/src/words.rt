@@ -1,6 +1,6 @@
 // The words of a command line.
 ghost use Rattle.std.specs.Prelude.{◌≡◌, ℕ, List, Option, map, option_map, string_bytes};
-ghost use Rattle.j1_workbench.specs.Words.{steps_of, one_name, two_names, name_and_steps, make_of, request_for, request_of, Request, Run, Build, Execute, ListImage, Assemble, Certify, Evaluate, Forth, Make, Bound, Net};
+ghost use Rattle.j1_workbench.specs.Words.{steps_of, one_name, two_names, name_and_steps, make_of, request_for, request_of, Request, Run, Build, Execute, ListImage, Assemble, Certify, Evaluate, Forth, Make, Bound, Net, WriteMemory, WriteKernel, Trace};
 ghost use Rattle.net_file.specs.Net.{is_file_name};
 ghost use Rattle.j1_workbench.specs.Commands.{requested};
 
@@ -20,12 +20,18 @@ pub enum Command<'a> {
     Make { seed: u32, count: u32 },
     Bound { source: &'a str },
     Net { file: &'a str },
+    WriteMemory { image: &'a str, text: &'a str },
+    WriteKernel { image: &'a str },
+    Trace { image: &'a str, steps: Option<u32> },
 }
 
 // The greatest numbers of instructions and of word steps that words may give.
 const MOST_STEPS: u32 = 1_000_000_000;
 
 const MOST_WORD_STEPS: u32 = 20_000_000;
+
+// The greatest number of instructions of a trace.
+const MOST_TRACED: u32 = 1_000_000;
 
 // Whether a word can name a file.
 fn is_name(word: &[u8]) -> bool
@@ -153,6 +159,12 @@ fn command_for<'a>(command: &str, words: &'a [String]) -> Option<Command<'a>>
         one_name(words).map(|source| Command::Bound { source })
     } else if command == "net" {
         one_name(words).map(|file| Command::Net { file })
+    } else if command == "hex" {
+        two_names(words).map(|(image, text)| Command::WriteMemory { image, text })
+    } else if command == "kernel" {
+        one_name(words).map(|image| Command::WriteKernel { image })
+    } else if command == "trace" {
+        name_and_steps(words, MOST_TRACED).map(|(image, steps)| Command::Trace { image, steps })
     } else {
         None
     }

@@ -2,7 +2,7 @@ use Rattle.std.proofs.Common.{rules}
 use Rattle.std.specs.Prelude.{map}
 use Rattle.std.specs.String.{string_bytes}
 use Rattle.j1_workbench.specs.Surroundings.{stream, folder}
-use Rattle.j1_workbench.proofs.Commands.{does_build, does_list, does_assemble, does_certify, does_bound, does_net, does_evaluate, does_forth, does_make}
+use Rattle.j1_workbench.proofs.Commands.{does_build, does_list, does_assemble, does_certify, does_bound, does_net, does_evaluate, does_forth, does_make, does_memory, does_kernel, does_trace}
 use Rattle.j1_workbench.proofs.answering.answer.Goals as goal
 
 pub returns-in-Some-Certify : goal.returns-in-Some-Certify
@@ -47,3 +47,20 @@ pub returns-in-Some-Forth : goal.returns-in-Some-Forth
 returns-in-Some-Forth g c =
     does_forth _ c.in-Some-Forth.steps c.session_steps.result _ _ c.serve.result c.answered-in-Some-Forth.result (search rules) c.session_steps.ensures c.answered-in-Some-Forth.ensures
     (c.serve.ensures (folder (g.F.Folder.files c.args.files.now) (g.F.Folder.calls c.args.files.now) (g.F.Folder.read_faults c.args.files.now) (g.F.Folder.write_faults c.args.files.now) (g.F.Folder.absences c.args.files.now)))
+
+pub returns-in-Some-WriteMemory : goal.returns-in-Some-WriteMemory
+returns-in-Some-WriteMemory g c =
+    does_memory _ c.in-Some-WriteMemory.image.now c.in-Some-WriteMemory.text.now _ _ _ c.answered-in-Some-WriteMemory.result (search rules) c.answered-in-Some-WriteMemory.ensures
+    (c.write_memory.ensures (stream (g.C.Source.left c.args.console.now) (g.C.Source.calls c.args.console.now) (g.C.Source.faults c.args.console.now))
+    (stream (g.O.Sink.held c.args.out.now) (g.O.Sink.calls c.args.out.now) (g.O.Sink.faults c.args.out.now)))
+
+pub returns-in-Some-WriteKernel : goal.returns-in-Some-WriteKernel
+returns-in-Some-WriteKernel g c =
+    does_kernel _ c.in-Some-WriteKernel.image.now _ _ _ c.answered-in-Some-WriteKernel.result (search rules) c.answered-in-Some-WriteKernel.ensures
+    (c.write_kernel.ensures (stream (g.C.Source.left c.args.console.now) (g.C.Source.calls c.args.console.now) (g.C.Source.faults c.args.console.now))
+    (stream (g.O.Sink.held c.args.out.now) (g.O.Sink.calls c.args.out.now) (g.O.Sink.faults c.args.out.now)))
+
+pub returns-in-Some-Trace : goal.returns-in-Some-Trace
+returns-in-Some-Trace g c =
+    does_trace _ c.in-Some-Trace.image.now c.in-Some-Trace.steps c.trace_steps-steps.result _ _ c.trace_image.result c.answered-in-Some-Trace.result (search rules) c.trace_steps-steps.ensures
+    c.answered-in-Some-Trace.ensures c.trace_image.ensures

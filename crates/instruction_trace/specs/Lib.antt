@@ -1,0 +1,4 @@
+pub mod TraceText
+pub mod Trace
+pub mod Turn
+pub mod Leaves
