@@ -96,8 +96,7 @@ reply_body = items (Literal error_cell ∷ Plain Fetch ∷ If (items (Call compl
 -- : ONE-LINE ( -- ) READ-LINE LINE SOURCE-START ! 0 >IN ! 0 LEVEL ! INTERPRET REPLY ;
 abbrev pub one_line_body : Nodes
 one_line_body = items (Call read_line_place ∷ Literal line_buffer ∷ Literal source_cell ∷ Plain Store ∷ Literal 0 ∷ Literal reached_cell ∷
-    Plain Store ∷
-    Literal 0 ∷ Literal level_cell ∷ Plain Store ∷ Call interpret_place ∷ Call reply_place ∷ [])
+    Plain Store ∷ Literal 0 ∷ Literal level_cell ∷ Plain Store ∷ Call interpret_place ∷ Call reply_place ∷ [])
 
 -- : MAIN ( -- ) RESET BEGIN ONE-LINE 0 UNTIL ;
 abbrev pub main_body : Nodes

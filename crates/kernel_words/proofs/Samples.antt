@@ -24,7 +24,7 @@ kernel = record {
   names = [];
   bodies = Empty ∷ Empty ∷ reached_body ∷ rest_body ∷ skip_body ∷ scan_body ∷ advance_body ∷ take_body ∷ word_from_body ∷ keep_word_body ∷
       kernel_word_body ∷ next_word_body ∷ parse_body ∷ upper_body ∷ same_byte_body ∷ same_body ∷ named_body ∷ code_and_flag_body ∷
-          kernel_find_body ∷
+      kernel_find_body ∷
       digit_body ∷ grow_body ∷ take_digit_body ∷ digits_body ∷ minus_sign_body ∷ signed_body ∷ kernel_number_body ∷ kernel_cell_body ∷
       kernel_header_body ∷ Empty ∷ [];
   main_body = 28;
@@ -68,8 +68,13 @@ is_kernel = record {
 
 -- the definition is run, and then the caller, which prints the low bytes of two cells
 abbrev begins : Nodes → List Work → List ℕ → State
-begins body after c = record { work = before body []; entries = []; callers = record { work = after; entries = [] } ∷ []; cells = c;
-    world = first_world kernel [] }
+begins body after c = record {
+  work = before body [];
+  entries = [];
+  callers = record { work = after; entries = [] } ∷ [];
+  cells = c;
+  world = first_world kernel [];
+}
 
 abbrev prints : List Work
 prints = Todo (Plain Emit) ∷ Todo (Plain Emit) ∷ []

@@ -1,0 +1,17 @@
+pub mod Stores
+pub mod Compiling
+pub mod Structures
+pub mod Interpreting
+pub mod Standing
+pub mod Changes
+pub mod Reading
+pub mod Closing
+pub mod WordLaw
+pub mod ItemWords
+pub mod TextLaw
+pub mod ColonRun
+pub mod ColonLaw
+pub mod TurnLaw
+pub mod LineLaw
+pub mod EndLaw
+pub mod OpenLaw
