@@ -27,6 +27,7 @@ use Rattle.depth_certifier.specs.Rounds.{ProperToken}
 use Rattle.kernel_words.specs.Bodies.{IsKernel}
 use Rattle.kernel_lines.specs.Bodies.{HasInterpreter, HasLines}
 use Rattle.kernel_definitions.specs.Bodies.{HasDefiningWords}
+use Rattle.kernel_interpreter.specs.Bodies.{IsInterpreter}
 use Rattle.target_forth.specs.declared.text.TheConstants.{KERNEL_TEXT}
 use Rattle.target_forth.specs.Kernel.{program_read, kernel_program}
 use Rattle.target_forth.specs.Certificate.{kernel_certificate}
@@ -237,6 +238,25 @@ has_defining_words p e = subst (λ bodies. HasDefiningWords (record p { bodies =
 
 pub kernel_has_defining_words : HasDefiningWords kernel_program
 kernel_has_defining_words = has_defining_words kernel_program bodies_are
+
+is_interpreter : (p : SourceProgram) → p.bodies ≡ kernel_bodies → IsInterpreter p
+is_interpreter p e = subst (λ bodies. IsInterpreter (record p { bodies = bodies })) (sym e) (record {
+  words = has_words (record p { bodies = kernel_bodies }) refl;
+  interpreter = has_interpreter (record p { bodies = kernel_bodies }) refl;
+  fail = refl;
+  push_user = refl;
+  pop_user = refl;
+  run = refl;
+  need = refl;
+  try = refl;
+  structure = refl;
+  found = refl;
+  put = refl;
+  interpret_word = refl;
+})
+
+pub kernel_is_interpreter : IsInterpreter kernel_program
+kernel_is_interpreter = is_interpreter kernel_program bodies_are
 
 -- ---- the replies: computed, with these bodies
 

@@ -15,3 +15,6 @@ returns-clause-built c = reading.kernel_is_built
 
 pub returns-clause-defining : goal.returns-clause-defining
 returns-clause-defining c = reading.kernel_has_defining_words
+
+pub returns-clause-interpreter : goal.returns-clause-interpreter
+returns-clause-interpreter c = reading.kernel_is_interpreter
