@@ -15,3 +15,4 @@ pub mod TurnLaw
 pub mod LineLaw
 pub mod EndLaw
 pub mod OpenLaw
+pub mod WholeLaw

@@ -74,7 +74,7 @@ module _ (w v : World) (k : SameLine w v) where
         few = t.few;
       }
 
-  words_kept : (older : List Header) (r : ℕ) (words : List TypedWord) (r' : ℕ) → WordsStand w older r words r' →
+  pub words_kept : (older : List Header) (r : ℕ) (words : List TypedWord) (r' : ℕ) → WordsStand w older r words r' →
       WordsStand v older r words r'
   words_kept older r [] r' s = s
   words_kept older r (word ∷ words) r' s =

@@ -11,3 +11,4 @@ pub mod Turns
 pub mod WholeLine
 pub mod Ending
 pub mod Opening
+pub mod WholeDefinition

@@ -8,7 +8,9 @@ ghost use Rattle.kernel_definitions.specs.Laws.{ThensAreCompiled, UntilsAreCompi
 ghost use Rattle.kernel_definitions.specs.Ending.{DefinitionsAreKept};
 ghost use Rattle.kernel_definitions.specs.Interpreting.{ColonsAreRead, SemicolonsAreRead, TextsAreRead};
 ghost use Rattle.kernel_definitions.specs.Turns.{ChecksPass, PlacesWait, TurnsAreComposed, TurnsAreMade};
+ghost use Rattle.kernel_definitions.specs.Opening.{DefinitionsAreOpened};
 ghost use Rattle.kernel_definitions.specs.WholeLine.{BodiesAreRead, LinesOfWordsAreRead};
+ghost use Rattle.kernel_definitions.specs.WholeDefinition.{DefinitionsAreTyped};
 
 use kernel_words::kernel_words_keep_their_laws;
 
@@ -76,13 +78,16 @@ pub fn turns_read_words()
     texts_are_interpreted();
 }
 
-/// The words of a definition, one after the other on a line, are read by as many turns of INTERPRET's loop, so that the items of a
-/// definition are read whole, and no other byte is changed but those of HERE, of the open structures, of >IN and of WORD-BUFFER. A turn
-/// with `;` then leaves the definition whole, and its end and its header as the places to come back to.
+/// A turn of INTERPRET's loop with `:` and a name opens a definition. The words of a definition, one after the other on a line, are read by
+/// as many turns, so that the items of a definition are read whole, and no other byte is changed but those of HERE, of the open structures,
+/// of >IN and of WORD-BUFFER. A turn with `;` then leaves the definition whole, and its end and its header as the places to come back to.
+/// So a whole definition on a line is compiled to the cells of its items, and all that it leaves is known.
 pub fn definitions_are_read_off_lines()
     ensures words { LinesOfWordsAreRead }
+    ensures opened { DefinitionsAreOpened }
     ensures body { BodiesAreRead }
     ensures kept { DefinitionsAreKept }
+    ensures whole { DefinitionsAreTyped }
 {
     kernel_words_keep_their_laws();
     texts_are_interpreted();
