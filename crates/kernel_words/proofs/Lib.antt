@@ -15,5 +15,3 @@ pub mod HeaderRun
 pub mod HeaderLaw
 pub mod HeaderList
 mod Samples
-pub mod ReadText
-pub mod Certificate

@@ -4,5 +4,3 @@ pub mod Running
 pub mod Memory
 pub mod Headers
 pub mod Laws
-pub mod Program
-pub mod Certificate

@@ -3,7 +3,5 @@
 #![tactic(auto)]
 
 mod laws;
-mod text;
 
-pub use laws::{kernel_words_are_certified, kernel_words_are_read, kernel_words_keep_their_laws};
-pub use text::KERNEL_WORDS_TEXT;
+pub use laws::kernel_words_keep_their_laws;

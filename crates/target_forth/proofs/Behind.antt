@@ -1,5 +1,5 @@
 -- What the kernel's image does behind each GO that comes back.
-use Rattle.std.proofs.Common.{◌≡◌, ℕ, false, refl, sym, subst}
+use Rattle.std.proofs.Common.{◌≡◌, false, refl, sym, subst}
 use Rattle.std.specs.List.{list_all}
 use Rattle.word_table.specs.declared.word.Vocabulary.TheVariants.{Kernel}
 use Rattle.forth_program.specs.Form.{everywhere, is_not_go, has_no_go}
@@ -7,7 +7,6 @@ use Rattle.library_laws.specs.Bodies.{whole_library}
 use Rattle.code_layout.specs.Library.{IsLibrary, LibraryMeans}
 use Rattle.control_flow.specs.SourceLaw.{EachProgramIsSource}
 use Rattle.depth_certifier.specs.Certificate.{IsValid}
-use Rattle.depth_certifier.specs.Soundness.{most_cells, most_return_cells}
 use Rattle.code_layout.specs.Chip.{DepthStaysWithin}
 use Rattle.code_layout.specs.ReturningChip.{round_returning_run}
 use Rattle.chip_laws.specs.Returning.{CertifiedImagesReturn, CertifiedChipsReturn, CertifiedChipsReturnTight}

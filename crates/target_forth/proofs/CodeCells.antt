@@ -56,7 +56,7 @@ kernel_ends_with_code = refl
 
 -- ---- the image of a data space has its cells
 
-abbrev laid : List ℕ → ℕ → List ℕ → List ℕ → List ℕ
+abbrev pub laid : List ℕ → ℕ → List ℕ → List ℕ → List ℕ
 laid cells n more zeros = cells_of_bytes (take n (bytes_of_cells cells) ++ more) ++ zeros
 
 -- behind the first cell it is as before
@@ -65,14 +65,14 @@ peeled : (cell : ℕ) (cells : List ℕ) (x : ℕ) (more zeros : List ℕ) → x
 peeled cell cells x more zeros small again zero k e within enough = omega (arith, e, small)
 peeled cell cells x more zeros small again (suc i) k e within enough = again i k e (omega arith) (omega arith)
 
-cell_is : (cells : List ℕ) (x : ℕ) (more zeros : List ℕ) → x < 0x10000 → (i n : ℕ) → cell_at cells i ≡ x → i < length cells → 2 * i + 2 ≤ n → slice_index (laid cells n more zeros) i ≡ x
+pub cell_is : (cells : List ℕ) (x : ℕ) (more zeros : List ℕ) → x < 0x10000 → (i n : ℕ) → cell_at cells i ≡ x → i < length cells → 2 * i + 2 ≤ n → slice_index (laid cells n more zeros) i ≡ x
 cell_is [] x more zeros small i n e within enough = absurd (omega arith)
 cell_is (cell ∷ cells) x more zeros small i n e within enough =
     let two : suc (suc (n - 2)) ≡ n = omega arith in
     subst (λ n. slice_index (laid (cell ∷ cells) n more zeros) i ≡ x) two
     (peeled cell cells x more zeros small (λ i n e within enough. cell_is cells x more zeros small i n e within enough) i (n - 2) e within (omega arith))
 
-at_least : (reserved used : ℕ) → reserved ≤ greater reserved used
+pub at_least : (reserved used : ℕ) → reserved ≤ greater reserved used
 at_least reserved used = chosen (nat_le reserved used) refl
   where
     chosen : (b : Bool) → nat_le reserved used ≡ b → reserved ≤ (elim b [ true ↦ used | false ↦ reserved ])
@@ -126,14 +126,14 @@ module _ (space : Space) (start : space.data_start ≡ 8192) (here : here_of spa
         record { number = (cells_there user_cells (0 ∷ []) (leb-true 0x1000 user_cells refl) t3.0).0; cells = tt },
       )
 
-cells_few : (bytes : List ℕ) → 2 * length (cells_of_bytes bytes) ≤ length bytes + 1
+pub cells_few : (bytes : List ℕ) → 2 * length (cells_of_bytes bytes) ≤ length bytes + 1
 cells_few [] = omega arith
 cells_few (low ∷ []) = omega arith
 cells_few (low ∷ high ∷ bytes) = omega (arith, cells_few bytes)
 
 -- ---- the kernel's program
 
-program_space : (last : Source) (main : Option ℕ) (p : SourceProgram) →
+pub program_space : (last : Source) (main : Option ℕ) (p : SourceProgram) →
     (elim main as (λ o. ParseResult SourceProgram) [
       | Some main ↦ Fine (program_with last.names last.bodies main last.at.count last.at.host)
       | None ↦ Refused (last.at.count + 1) cause.NoMain

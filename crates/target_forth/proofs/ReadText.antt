@@ -25,6 +25,9 @@ use Rattle.depth_certifier.specs.Checking.{is_valid, ChecksAreExact}
 use Rattle.depth_certifier.specs.Soundness.{most_cells, most_return_cells}
 use Rattle.depth_certifier.specs.Rounds.{ProperToken}
 use Rattle.kernel_words.specs.Bodies.{IsKernel}
+use Rattle.kernel_lines.specs.Bodies.{HasInterpreter, HasLines}
+use Rattle.kernel_definitions.specs.Bodies.{HasDefiningWords}
+use Rattle.kernel_interpreter.specs.Bodies.{IsInterpreter}
 use Rattle.target_forth.specs.declared.text.TheConstants.{KERNEL_TEXT}
 use Rattle.target_forth.specs.Kernel.{program_read, kernel_program}
 use Rattle.target_forth.specs.Certificate.{kernel_certificate}
@@ -137,6 +140,10 @@ pub bodies_are : kernel_program.bodies ≡ kernel_bodies
 unfolding bracket_at host_part_at items_at source_at kernel_program
 bodies_are = refl
 
+pub main_is : kernel_program.main_body ≡ 111
+unfolding bracket_at host_part_at items_at source_at kernel_program
+main_is = refl
+
 -- the kernel with these bodies
 has_words : (p : SourceProgram) → p.bodies ≡ kernel_bodies → IsKernel p
 has_words p e = subst (λ bodies. IsKernel (record p { bodies = bodies })) (sym e) (record {
@@ -170,6 +177,86 @@ has_words p e = subst (λ bodies. IsKernel (record p { bodies = bodies })) (sym 
 
 pub kernel_has_words : IsKernel kernel_program
 kernel_has_words = has_words kernel_program bodies_are
+
+-- and its definitions of a line
+has_interpreter : (p : SourceProgram) → p.bodies ≡ kernel_bodies → HasInterpreter p
+has_interpreter p e = subst (λ bodies. HasInterpreter (record p { bodies = bodies })) (sym e) (record {
+  stack_fail = refl;
+  close_all = refl;
+  check = refl;
+  keep_places = refl;
+  interpret = refl;
+})
+
+has_lines : (p : SourceProgram) → p.bodies ≡ kernel_bodies → HasLines p
+has_lines p e = subst (λ bodies. HasLines (record p { bodies = bodies })) (sym e) (record {
+  interpreter = has_interpreter (record p { bodies = kernel_bodies }) refl;
+  keep_byte = refl;
+  read_line = refl;
+  reset = refl;
+  say_word = refl;
+  complain = refl;
+  reply = refl;
+  one_line = refl;
+  main = refl;
+})
+
+pub kernel_has_lines : HasLines kernel_program
+kernel_has_lines = has_lines kernel_program bodies_are
+
+has_defining_words : (p : SourceProgram) → p.bodies ≡ kernel_bodies → HasDefiningWords p
+has_defining_words p e = subst (λ bodies. HasDefiningWords (record p { bodies = bodies })) (sym e) (record {
+  kernel = has_words (record p { bodies = kernel_bodies }) refl;
+  fail = refl;
+  code_address = refl;
+  compile_literal = refl;
+  compile_call = refl;
+  compile_return = refl;
+  compile_jump = refl;
+  compile_branch = refl;
+  patch = refl;
+  entry = refl;
+  opens = refl;
+  closes = refl;
+  kernel_if = refl;
+  kernel_then = refl;
+  kernel_else = refl;
+  kernel_begin = refl;
+  kernel_until = refl;
+  kernel_while = refl;
+  kernel_repeat = refl;
+  new_name = refl;
+  define = refl;
+  kernel_colon = refl;
+  kernel_semicolon = refl;
+  structure = refl;
+  found = refl;
+  put = refl;
+  interpret_word = refl;
+  interpreter = has_interpreter (record p { bodies = kernel_bodies }) refl;
+})
+
+pub kernel_has_defining_words : HasDefiningWords kernel_program
+kernel_has_defining_words = has_defining_words kernel_program bodies_are
+
+is_interpreter : (p : SourceProgram) → p.bodies ≡ kernel_bodies → IsInterpreter p
+is_interpreter p e = subst (λ bodies. IsInterpreter (record p { bodies = bodies })) (sym e) (record {
+  words = has_words (record p { bodies = kernel_bodies }) refl;
+  interpreter = has_interpreter (record p { bodies = kernel_bodies }) refl;
+  fail = refl;
+  push_user = refl;
+  pop_user = refl;
+  run = refl;
+  need = refl;
+  try = refl;
+  structure = refl;
+  found = refl;
+  put = refl;
+  interpret_word = refl;
+})
+
+pub kernel_is_interpreter : IsInterpreter kernel_program
+kernel_is_interpreter = is_interpreter kernel_program bodies_are
 
 -- ---- the replies: computed, with these bodies
 

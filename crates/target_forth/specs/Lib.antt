@@ -5,3 +5,4 @@ pub mod Replies
 pub mod Places
 pub mod Behind
 pub mod MachineCode
+pub mod FirstState

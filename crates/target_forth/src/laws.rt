@@ -6,6 +6,9 @@ ghost use Rattle.code_layout.specs.Built.{IsBuilt};
 ghost use Rattle.control_flow.specs.ParseResult.{Fine};
 ghost use Rattle.control_flow.specs.SourceText.{program_in};
 ghost use Rattle.depth_certifier.specs.Certificate.{IsValid};
+ghost use Rattle.kernel_definitions.specs.Bodies.{HasDefiningWords};
+ghost use Rattle.kernel_interpreter.specs.Bodies.{IsInterpreter};
+ghost use Rattle.kernel_lines.specs.Bodies.{HasLines};
 ghost use Rattle.kernel_words.specs.Bodies.{IsKernel};
 ghost use Rattle.target_forth.specs.Behind.{KernelAgrees, KernelAgreesOnChip, KernelKeepsTight};
 ghost use Rattle.target_forth.specs.Certificate.{kernel_certificate};
@@ -19,10 +22,15 @@ use depth_certifier::checks_are_exact;
 use forth_library::library_means;
 
 /// By the grammar of kernels the text gives a program, which is never refused and can be laid out. It has the definitions that read the source, look
-/// for names and numbers, and lay cells and headers at their places: so these do in it what the laws of `kernel_words` say.
+/// for names and numbers, and lay cells and headers at their places: so these do in it what the laws of `kernel_words` say. So it has those of a
+/// line, which do what the laws of `kernel_lines` say, those that compile a typed definition, as `kernel_definitions` says, and those that do the words
+/// of a line outside definitions, as `kernel_interpreter` says.
 pub fn kernel_is_read()
     ensures read { program_in Kernel KERNEL_TEXT.now ≡ Fine kernel_program }
     ensures words { IsKernel kernel_program }
+    ensures lines { HasLines kernel_program }
+    ensures defining { HasDefiningWords kernel_program }
+    ensures interpreter { IsInterpreter kernel_program }
     ensures built { IsBuilt whole_library kernel_program }
 {}
 

@@ -7,3 +7,5 @@ pub mod Running
 pub mod WayBack
 pub mod OnChip
 pub mod Whole
+pub mod TypedWords
+pub mod OnChipWords

@@ -111,9 +111,8 @@ module _ (code memory space input printed addresses : List ℕ) (place address :
       (sym b.return_depth ∙ sym (down_one (length s.returns)) ∙ ap (λ d. d +ℤ negsuc 0) a.return_depth) (sym b.stop ∙ a.stop)
 
 pub returns_go_back_on_chip : RingLaws → ReturnsGoBackOnChip
-returns_go_back_on_chip laws count high return_high place address memory code space input printed addresses s da ra chip leads h h' few known a =
+returns_go_back_on_chip laws count high return_high place address memory code space input printed addresses s da ra chip come h h' few known a =
     let w : OpenConfiguration = stands_at place [] memory (called_from address s) da ra in
-    let come = leads da ra in
     let z : RoundConfiguration = run round_storage 0x2000 count chip in
     let b = subst (λ u. Agrees u z) come.makes (agrees_on laws count w chip a (laws.fit 0 high 0 return_high count 0x2000 w h h' come.bounds) (ap (λ u. u.stop) come.makes)) in
     let down = laws.down w.core.return_stack chip.core.return_stack a.core.return_stack (height_le (suc (length s.returns)) 32 (Some address ∷ s.returns) (omega arith) (height_length (Some address ∷ s.returns))) in

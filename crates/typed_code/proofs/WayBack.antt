@@ -34,8 +34,7 @@ stands_back : (code memory : List ℕ) (place address : ℕ) (s : Surroundings) 
 stands_back code memory place address s da ra r = ap (counted_by code address s r) (sym (down_one (length s.returns)))
 
 pub returns_go_back : ReturnsGoBack
-returns_go_back count high return_high place address memory code space input printed s da ra leads =
-    let come = leads da ra in
+returns_go_back count high return_high place address memory code space input printed s da ra come =
     let r : MachineReturn = record { back = given_back space input printed; data_above = come.data_above; return_above = come.return_above } in
     record { data_above = come.data_above; return_above = come.return_above; makes = come.makes ∙ stands_back code memory place address s da ra r; bounds = come.bounds }
 

@@ -2,3 +2,4 @@ pub mod MachineCode
 pub mod Standing
 pub mod Laws
 pub mod WayBack
+pub mod TypedWords

@@ -10,7 +10,7 @@ use Rattle.word_laws.specs.Bounds.{StaysWithin}
 use Rattle.code_layout.specs.Returning.{machine_back}
 use Rattle.code_layout.specs.ReturningChip.{RoundConfiguration, RoundReturn, AreRings, round_back}
 use Rattle.typed_code.specs.MachineCode.{run_code, run_call, HasMachineCode, HasUserCells, saved, with_return_base}
-use Rattle.typed_code.specs.Standing.{Surroundings, stands_at, called_from, place_of, Leads}
+use Rattle.typed_code.specs.Standing.{Surroundings, stands_at, called_from, place_of, Comes, Leads}
 
 -- a data space, the input left, and what was printed meanwhile
 abbrev pub given_back : List ℕ → List ℕ → List ℕ → Return
@@ -30,24 +30,24 @@ pub record GoesBackOnChip (count : ℕ) (code : List ℕ) (back : Return) (from 
   pub rings : AreRings returned
   pub makes : run round_storage 0x2000 count from ≡ round_back code returned from
 
--- whatever takes no data cells, leaves none, and comes to its return address with the code before data space as it was
-abbrev pub Returns : ℕ → ℕ → ℕ → ℕ → ℕ → List ℕ → List ℕ → List ℕ → List ℕ → List ℕ → Surroundings → Type 0
-Returns count high return_high place address memory code space input printed s =
-    Leads count high return_high place [] memory (called_from address s) (place_of address) [] (code ++ space)
+-- what takes no data cells, leaves none, and comes to its return address with the code before data space as it was
+abbrev pub Returns : ℕ → ℕ → ℕ → ℕ → ℕ → List ℕ → List ℕ → List ℕ → List ℕ → List ℕ → Surroundings → List (Option ℕ) → List (Option ℕ) → Type 0
+Returns count high return_high place address memory code space input printed s data_above return_above =
+    Comes count high return_high (stands_at place [] memory (called_from address s) data_above return_above) (place_of address) [] (code ++ space)
     (record s { input = input; printed = s.printed ++ printed }) (Some address ∷ [])
 
 -- is a return behind GO
 abbrev pub ReturnsGoBack : Type 0
 ReturnsGoBack =
     (count high return_high place address : ℕ) (memory code space input printed : List ℕ) (s : Surroundings) (data_above return_above : List (Option ℕ)) →
-    Returns count high return_high place address memory code space input printed s →
+    Returns count high return_high place address memory code space input printed s data_above return_above →
     GoesBack count high return_high code (given_back space input printed) (stands_at place [] memory (called_from address s) data_above return_above)
 
 -- and one on the chip, where it stays within the rings, all return cells below are known, and the chip stands alike
 abbrev pub ReturnsGoBackOnChip : Type 0
 ReturnsGoBackOnChip =
     (count high return_high place address : ℕ) (memory code space input printed addresses : List ℕ) (s : Surroundings) (data_above return_above : List (Option ℕ)) (chip : RoundConfiguration) →
-    Returns count high return_high place address memory code space input printed s → high ≤ 33 → return_high ≤ 32 → length s.returns + 1 ≤ return_high →
+    Returns count high return_high place address memory code space input printed s data_above return_above → high ≤ 33 → return_high ≤ 32 → length s.returns + 1 ≤ return_high →
     s.returns ≡ map Some addresses → Agrees (stands_at place [] memory (called_from address s) data_above return_above) chip →
     GoesBackOnChip count code (given_back space input printed) chip
 

@@ -6,7 +6,9 @@
 #![tactic(auto)]
 
 mod laws;
+mod typed_words;
 mod way_back;
 
 pub use laws::{a_typed_word_comes_back, calls_lead_behind, cells_are_loaded, cells_are_saved};
+pub use typed_words::{typed_words_do_their_meaning, typed_words_do_their_meaning_on_chip};
 pub use way_back::{returns_go_back, saved_cells_keep_code, typed_words_go_back};

@@ -1,0 +1,14 @@
+pub mod Places
+pub mod Bodies
+pub mod Stores
+pub mod TypedItems
+pub mod OpenDefinition
+pub mod Compiling
+pub mod Interpreting
+pub mod Beginning
+pub mod Laws
+pub mod Turns
+pub mod WholeLine
+pub mod Ending
+pub mod Opening
+pub mod WholeDefinition

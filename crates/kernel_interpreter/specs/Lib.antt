@@ -1,0 +1,5 @@
+pub mod Places
+pub mod Bodies
+pub mod UserCells
+pub mod Running
+pub mod Laws

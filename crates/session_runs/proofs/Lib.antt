@@ -1,0 +1,12 @@
+pub mod Splicing
+pub mod Following
+pub mod Calls
+pub mod InWords
+pub mod Parts
+pub mod Along
+pub mod CallsAlong
+pub mod EndsAlong
+pub mod InputEndsAlong
+pub mod Kernels
+pub mod Enough
+pub mod WayOut

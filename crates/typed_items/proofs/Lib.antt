@@ -1,0 +1,9 @@
+pub mod Instructions
+pub mod Placed
+pub mod Listed
+pub mod Step
+pub mod Running
+pub mod Built
+pub mod Whole
+pub mod OnChip
+pub mod Kept

@@ -1,0 +1,4 @@
+pub mod Items
+pub mod Listed
+pub mod Laws
+pub mod OnChip
