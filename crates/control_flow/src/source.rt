@@ -269,7 +269,13 @@ impl<'a> ReadSource<'a> {
             return self.definition(alloc);
         }
         let is_due = is_due(self.before);
-        match at_once(&mut self.parser, alloc, sense, self.defining.as_slice(), is_due) {
+        match at_once(
+            &mut self.parser,
+            alloc,
+            sense,
+            self.defining.as_slice(),
+            is_due,
+        ) {
             Ok(()) => {}
             Err(error) => return Err(error),
         }
