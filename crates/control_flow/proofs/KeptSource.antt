@@ -10,6 +10,7 @@ use Rattle.forth_program.specs.Program.{SourceProgram}
 use Rattle.control_flow.specs.declared.refusal.SourceCause.TheVariants as cause
 use Rattle.control_flow.specs.declared.refusal.SourceError.{SourceError}
 use Rattle.control_flow.specs.declared.refusal.SourceError.TheVariants as error
+use Rattle.control_flow.specs.declared.parser.Parser.{Parser}
 use Rattle.control_flow.specs.declared.source.ReadSource.{ReadSource}
 use Rattle.control_flow.specs.ParseResult.{ParseResult, Fine, Refused}
 use Rattle.control_flow.specs.SourceText.{Source, program_with, main_of, source_start, program_of_source, program_in, program_of_text}
@@ -40,6 +41,10 @@ grows_then old mid new g h = record {
   defining = begins_then _ _ _ g.defining h.defining;
   entries = begins_then _ _ _ g.entries h.entries;
 }
+
+-- another place, with the same entries
+pub same_entries : (old : ReadSource) (parser : Parser) → parser.dictionary.pairs ≡ old.parser.dictionary.pairs → Grows old (record old { parser = parser })
+same_entries old parser e = record { names = begins_same _ _ refl; bodies = begins_same _ _ refl; defining = begins_same _ _ refl; entries = begins_same _ _ e }
 
 -- ---- the program of a text that is read to its end
 

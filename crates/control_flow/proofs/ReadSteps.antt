@@ -1,9 +1,13 @@
 -- One definition more, up to the end of a text.
-use Rattle.std.proofs.Common.{◌≡◌, ℕ, zero, suc, ◌-◌, ◌<◌, ◌≤◌, length, Option, Some, None, ap, ◌∙◌, arith}
+use Rattle.std.proofs.Common.{◌≡◌, ℕ, zero, suc, ◌-◌, ◌<◌, ◌≤◌, length, Option, Some, None, refl, sym, ap, ◌∙◌, arith}
 use Rattle.control_flow.specs.declared.refusal.SourceError.{SourceError}
+use Rattle.control_flow.specs.declared.refusal.SourceCause.{SourceCause}
+use Rattle.control_flow.specs.declared.refusal.SourceCause.TheVariants as cause
 use Rattle.control_flow.specs.declared.outside_sense.OutsideSense.{OutsideSense}
-use Rattle.control_flow.specs.ParseResult.{ParserState, ParseResult, Fine, ◌>>=◌}
-use Rattle.control_flow.specs.SourceText.{Source, OutsideToken, outside_at, outside_by}
+use Rattle.control_flow.specs.declared.outside_sense.OutsideSense.TheVariants.{Begins, Quoted}
+use Rattle.control_flow.specs.ParseResult.{ParserState, ParseResult, Fine, Refused, Endless, ◌>>=◌}
+use Rattle.control_flow.specs.SourceText.{Source, OutsideToken, is_due, before_next, outside_at, at_once_at, resumed, outside_by}
+use Rattle.control_flow.specs.ReadTokens.{quotation_at}
 use Rattle.control_flow.specs.Answers.{FailsAs}
 use Rattle.control_flow.specs.Pieces.{read_by, read_at}
 use Rattle.control_flow.proofs.ItemLists.{fails_then, fails_as}
@@ -50,3 +54,24 @@ module _ (whole : ParseResult Source) (source : Source) (here : InSource whole s
         enough = omega (arith, here.enough, shorter, left);
         same = with_sense ∙ ap (λ o. o >>= read_at (here.fuel - 1)) (f (here.fuel - 1) (omega (arith, here.enough, shorter)));
       }
+
+-- ---- what a token does at once
+
+refused_on : {A B C : Type 0} (o : ParseResult A) (number : A → ℕ) (c : SourceCause) (f : B → ParseResult C) → (o >>= λ x. Refused (number x) c) ≡ ((o >>= λ x. Refused (number x) c) >>= f)
+refused_on (Fine x) number c f = refl
+refused_on (Refused k d) number c f = refl
+refused_on Endless number c f = refl
+
+at_once_is : (n : ℕ) (source : Source) (at : ParserState) (sense : OutsideSense) → (sense ≡ Begins → ⊥) →
+    outside_by n source at sense ≡ (at_once_at source.defining (is_due source.before) sense at >>= resumed source sense)
+at_once_is n source at Begins other = absurd (other refl)
+at_once_is n source at Quoted other = refused_on (quotation_at at) (λ q. q.at.count) cause.OnlyInDefinition (resumed source Quoted)
+at_once_is n source at sense other = refl
+
+pub refused_at_once : (n : ℕ) (source : Source) (at : ParserState) (sense : OutsideSense) → (sense ≡ Begins → ⊥) → (e : SourceError) →
+    FailsAs e (at_once_at source.defining (is_due source.before) sense at) → FailsAs e (outside_by n source at sense)
+refused_at_once n source at sense other e f = fails_as e _ _ (at_once_is n source at sense other) (fails_then e (at_once_at source.defining (is_due source.before) sense at) _ f)
+
+pub done_at_once : (n : ℕ) (source : Source) (at : ParserState) (sense : OutsideSense) → (sense ≡ Begins → ⊥) → (after : ParserState) →
+    at_once_at source.defining (is_due source.before) sense at ≡ Fine after → outside_by n source at sense ≡ Fine (record source { at = after; before = before_next source.before sense })
+done_at_once n source at sense other after f = at_once_is n source at sense other ∙ ap (λ o. o >>= resumed source sense) f

@@ -130,6 +130,22 @@ child_by None at = only_inside at
 abbrev pub resumed : Source → OutsideSense → ParserState → ParseResult Source
 resumed source sense at = Fine (record source { at = at; before = before_next source.before sense })
 
+-- what a token does at once, with the defining words that are there, and where CODE-CELLS is due
+abbrev pub at_once_at : List DefiningWord → Bool → OutsideSense → ParserState → ParseResult ParserState
+at_once_at defining due Begins at = only_inside at
+at_once_at defining due (Acts item) at = acted_at item at
+at_once_at defining due NamesConstant at = constant_at at
+at_once_at defining due NamesVariable at = variable_at at
+at_once_at defining due NamesAddress at = create_at at
+at_once_at defining due (NamesChild number) at = child_by (slice_get defining number) at
+at_once_at defining due Ticks at = outside_tick_at at
+at_once_at defining due Spells at = outside_char_at at
+at_once_at defining due Splits at = code_cells_at due at
+at_once_at defining due Quoted at = quoted_at cause.OnlyInDefinition at
+at_once_at defining due OutOfRange at = Refused at.count cause.NumberRange
+at_once_at defining due Unknown at = Refused at.count cause.UnknownWord
+at_once_at defining due Forbidden at = only_inside at
+
 -- a definition, or what is done at once
 abbrev pub outside_by : ℕ → Source → ParserState → OutsideSense → ParseResult Source
 outside_by n source at Begins = definition_at n source at

@@ -1,14 +1,14 @@
 // Reading a whole source.
-ghost use Rattle.std.specs.Prelude.{◌≡◌, ℕ, ◌+◌, ◌<◌, ◌≤◌, length, IfOk, IfErr, OnOk};
+ghost use Rattle.std.specs.Prelude.{◌≡◌, ℕ, ◌+◌, ◌<◌, ◌≤◌, length, map, IfOk, IfErr, OnOk};
 ghost use Rattle.forth_program.specs.Form.{IsProgram};
 ghost use Rattle.forth_program.specs.ItemTrees.{tree_of};
 ghost use Rattle.word_table.specs.declared.word.Vocabulary.TheVariants as vocabulary;
 ghost use Rattle.forth_reader.specs.Name.{IsName};
 ghost use Rattle.control_flow.specs.ParseResult.{Each};
-ghost use Rattle.control_flow.specs.SourceText.{main_of, source_start, with_body, with_definition, with_defining, defining_at, definition_at, outside_by, program_of_source, program_in, program_of_text};
+ghost use Rattle.control_flow.specs.SourceText.{main_of, source_start, with_body, with_definition, with_defining, defining_at, definition_at, outside_by, at_once_at, program_of_source, program_in, program_of_text};
 ghost use Rattle.control_flow.specs.Pieces.{read_at};
-ghost use Rattle.control_flow.specs.ReadingState.{Grows};
-ghost use Rattle.control_flow.specs.Answers.{parser_state, source_of, IsReadyParser, IsCounted, AnswersAs};
+ghost use Rattle.control_flow.specs.ReadingState.{BeginsWith, Grows};
+ghost use Rattle.control_flow.specs.Answers.{parser_state, source_of, defining_word_of, IsReadyParser, IsCounted, AnswersAs};
 
 use crate::before::{Before, before_next, is_due};
 use crate::nest::{Ending, Nest};
@@ -55,6 +55,41 @@ fn main_of(entry: Option<Entry>) -> Option<u16>
             Known::Definition(main) => Some(main),
             _ => None,
         },
+    }
+}
+
+/// What a token does at once outside definitions, with the defining words that are there.
+fn at_once<'a>(
+    parser: &mut Parser<'a>,
+    alloc: Global,
+    sense: OutsideSense,
+    defining: &[DefiningWord],
+    is_due: bool,
+) -> Result<(), SourceError>
+    requires { IsReadyParser parser.old }
+    ensures gives { AnswersAs (λ _. parser_state parser.new) result (at_once_at (map defining_word_of defining.now) is_due sense (parser_state parser.old)) }
+    ensures shorter { OnOk result (length parser.new.reader.rest ≤ length parser.old.reader.rest) }
+    ensures ready { OnOk result (IsReadyParser parser.new) }
+    ensures kept { OnOk result ((parser.new.definitions ≡ parser.old.definitions) × (length parser.old.dictionary.pairs ≤ length parser.new.dictionary.pairs)) }
+    ensures entries { BeginsWith parser.old.dictionary.pairs parser.new.dictionary.pairs }
+{
+    match sense {
+        OutsideSense::Begins => parser.refuse(SourceCause::OnlyInDefinition),
+        OutsideSense::Acts(item) => parser.act(item),
+        OutsideSense::NamesConstant => parser.constant(),
+        OutsideSense::NamesVariable => parser.variable(),
+        OutsideSense::NamesAddress => parser.create(),
+        OutsideSense::NamesChild(number) => match defining.get(usize::from(number)) {
+            Some(word) => parser.child(word.items.as_slice(), word.part),
+            None => parser.refuse(SourceCause::OnlyInDefinition),
+        },
+        OutsideSense::Ticks => parser.tick(),
+        OutsideSense::Spells => parser.char(),
+        OutsideSense::Splits => parser.split(alloc, is_due),
+        OutsideSense::Quoted => Err(parser.quoted(SourceCause::OnlyInDefinition)),
+        OutsideSense::OutOfRange => parser.refuse(SourceCause::NumberRange),
+        OutsideSense::Unknown => parser.refuse(SourceCause::UnknownWord),
+        OutsideSense::Forbidden => parser.refuse(SourceCause::OnlyInDefinition),
     }
 }
 
@@ -230,23 +265,19 @@ impl<'a> ReadSource<'a> {
         ensures counted { OnOk result (IsCounted self.new) }
         ensures grows { Grows self.old self.new }
     {
-        match sense {
-            OutsideSense::Begins => return self.definition(alloc),
-            OutsideSense::Acts(item) => self.parser.act(item)?,
-            OutsideSense::NamesConstant => self.parser.constant()?,
-            OutsideSense::NamesVariable => self.parser.variable()?,
-            OutsideSense::NamesAddress => self.parser.create()?,
-            OutsideSense::NamesChild(number) => match self.defining.get(usize::from(number)) {
-                Some(word) => self.parser.child(word.items.as_slice(), word.part)?,
-                None => return self.parser.refuse(SourceCause::OnlyInDefinition),
-            },
-            OutsideSense::Ticks => self.parser.tick()?,
-            OutsideSense::Spells => self.parser.char()?,
-            OutsideSense::Splits => self.parser.split(alloc, is_due(self.before))?,
-            OutsideSense::Quoted => return Err(self.parser.quoted(SourceCause::OnlyInDefinition)),
-            OutsideSense::OutOfRange => return self.parser.refuse(SourceCause::NumberRange),
-            OutsideSense::Unknown => return self.parser.refuse(SourceCause::UnknownWord),
-            OutsideSense::Forbidden => return self.parser.refuse(SourceCause::OnlyInDefinition),
+        if let OutsideSense::Begins = sense {
+            return self.definition(alloc);
+        }
+        let is_due = is_due(self.before);
+        match at_once(
+            &mut self.parser,
+            alloc,
+            sense,
+            self.defining.as_slice(),
+            is_due,
+        ) {
+            Ok(()) => {}
+            Err(error) => return Err(error),
         }
         self.before = before_next(self.before, sense);
         Ok(())

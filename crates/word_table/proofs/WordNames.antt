@@ -7,9 +7,8 @@ use Rattle.std.specs.List.{list_all}
 use Rattle.std.proofs.lemmas.Bool.{and_parts}
 use Rattle.std.proofs.lemmas.Slice.Eq.{bytes_eq-Decides}
 use Rattle.word_table.specs.declared.word.Word.{Word}
-use Rattle.word_table.specs.declared.word.Vocabulary.TheVariants.{Kernel}
 use Rattle.word_table.specs.declared.word.Word.TheVariants.{Dup, Go}
-use Rattle.word_table.specs.Names.{name_of, is_named, first_named, all_words, word_named, word_in, is_go, EachIsFound, SourcesLackGo}
+use Rattle.word_table.specs.Names.{name_of, is_named, first_named, all_words, word_named, is_go, EachIsFound, SourcesLackGo}
 
 -- std's comparison without case is the definition's
 pub same_test : (b : Bool) (xs ys : List ℕ) → (IsTrue b ↔ (map to_ascii_lowercase xs ≡ map to_ascii_lowercase ys)) → b ≡ bytes_eq (str_to_ascii_lowercase xs) (str_to_ascii_lowercase ys)

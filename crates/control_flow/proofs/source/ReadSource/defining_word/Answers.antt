@@ -1,5 +1,6 @@
 use Rattle.std.proofs.Common.{arith, ◌∙◌, sym, true}
 use Rattle.control_flow.specs.Answers.{parser_state}
+use Rattle.control_flow.proofs.KeptSource.{same_entries, grows_then}
 use Rattle.control_flow.proofs.SourceFacts.{part_keeps, body_keeps}
 use Rattle.control_flow.proofs.source.ReadSource.defining_word.Goals as goal
 
@@ -47,3 +48,22 @@ keep-requires-clause-few c =
     let p = part_keeps c.host_words_keep.ensures.words (parser_state c.args.self.now.parser) _ c.in_ok-part.ensures.gives in
     let b = body_keeps c.host_words_keep.ensures.words (record (parser_state c.host_part.new.self) { does = true }) _ c.in_ok-body.ensures.gives in
     omega (arith, c.in_ok-define_defining-in-Semicolon.ensures.longer, b.1, p.1, c.requires.room)
+
+-- what is read of a defining word leaves what stands before it
+pub returns-in_err-part-clause-grows : goal.returns-in_err-part-clause-grows
+returns-in_err-part-clause-grows c = same_entries c.args.self.now c.host_part.new.self c.host_part.ensures.entries
+
+pub returns-in_err-body-clause-grows : goal.returns-in_err-body-clause-grows
+returns-in_err-body-clause-grows c = same_entries c.args.self.now c.items.new.self (c.items.ensures.entries ∙ c.host_part.ensures.entries)
+
+pub returns-in_default-clause-grows : goal.returns-in_default-clause-grows
+returns-in_default-clause-grows c = same_entries c.args.self.now c.items.new.self (c.items.ensures.entries ∙ c.host_part.ensures.entries)
+
+pub returns-in_err-define_defining-in-Semicolon-clause-grows : goal.returns-in_err-define_defining-in-Semicolon-clause-grows
+returns-in_err-define_defining-in-Semicolon-clause-grows c =
+    grows_then _ _ _ (same_entries c.args.self.now c.items.new.self (c.items.ensures.entries ∙ c.host_part.ensures.entries)) c.define_defining-in-Semicolon.ensures.grows
+
+pub returns-in_ok-define_defining-in-Semicolon-clause-grows : goal.returns-in_ok-define_defining-in-Semicolon-clause-grows
+returns-in_ok-define_defining-in-Semicolon-clause-grows c =
+    grows_then _ _ _ (same_entries c.args.self.now c.items.new.self (c.items.ensures.entries ∙ c.host_part.ensures.entries))
+    (grows_then _ _ _ c.define_defining-in-Semicolon.ensures.grows c.keep.ensures.grows)
