@@ -1,5 +1,5 @@
 -- One definition more, up to the end of a text.
-use Rattle.std.proofs.Common.{◌≡◌, ℕ, zero, suc, ◌-◌, ◌<◌, ◌≤◌, length, Option, Some, None, refl, sym, ap, ◌∙◌, arith}
+use Rattle.std.proofs.Common.{◌≡◌, ℕ, zero, suc, ◌-◌, ◌<◌, ◌≤◌, length, Option, Some, None, refl, ap, ◌∙◌, arith}
 use Rattle.control_flow.specs.declared.refusal.SourceError.{SourceError}
 use Rattle.control_flow.specs.declared.refusal.SourceCause.{SourceCause}
 use Rattle.control_flow.specs.declared.refusal.SourceCause.TheVariants as cause

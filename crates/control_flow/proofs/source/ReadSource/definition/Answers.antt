@@ -1,11 +1,11 @@
-use Rattle.std.proofs.Common.{arith, ◌∙◌, ap, sym, suc, length, refl}
+use Rattle.std.proofs.Common.{arith, ◌∙◌, ap, sym, suc, length}
 use Rattle.dictionary_core.specs.Pairs.{DictionaryState}
 use Rattle.host_state.specs.declared.entry.Entry.{Entry}
 use Rattle.control_flow.specs.ReadTokens.{ReadToken, token_at}
 use Rattle.control_flow.specs.Items.{items_by, items_at}
 use Rattle.control_flow.specs.Answers.{parser_state}
 use Rattle.control_flow.proofs.Moves.{good_is}
-use Rattle.control_flow.proofs.KeptSource.{begins_same, grows_then, same_entries}
+use Rattle.control_flow.proofs.KeptSource.{grows_then, same_entries}
 use Rattle.control_flow.proofs.ItemFacts.{TokenRead, token_read, ItemsRead, items_from_read}
 use Rattle.control_flow.proofs.source.ReadSource.definition.Goals as goal
 
