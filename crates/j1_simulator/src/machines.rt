@@ -1,6 +1,7 @@
 // Machines that are given their input byte by byte.
 ghost use Rattle.std.specs.Prelude.{◌≡◌, IfOk, None, false, slice_index};
 ghost use Rattle.j1_table.specs.Instruction.{decoded};
+ghost use Rattle.j1_table.specs.declared.instr.Instr.TheVariants.{Alu};
 ghost use Rattle.j1_simulator.specs.Effect.{effect};
 ghost use Rattle.j1_simulator.specs.declared.ends.Event.TheVariants.{Went};
 ghost use Rattle.j1_simulator.specs.PortAccess.{next_accesses, OneAtPort, step_given};
@@ -15,7 +16,7 @@ use crate::ends::{End, Event};
 use crate::memory::memory_cells;
 use crate::registers::Registers;
 use console_ports::Fence;
-use j1_table::{Image, Instr};
+use j1_table::{AluWord, Image, Instr};
 use std::alloc::{AllocError, Global};
 use std::marker::Model;
 
@@ -121,6 +122,16 @@ impl Machine {
         }
     }
 
+    // Makes the next instruction, which is this one, in code of its own: `step` is then small enough to stand in place in several loops.
+    #[inline(never)]
+    fn make_alu(&mut self, word: AluWord) -> Event
+        requires running { self.old.ended ≡ None }
+        requires instr { Alu word ≡ decoded (slice_index self.old.core.memory self.old.core.pc) }
+        ensures { Steps self.old.ended result self.old self.new }
+    {
+        self.make(Instr::Alu(word))
+    }
+
     // Makes the next instruction, which is this one and makes no access.
     #[inline(always)]
     fn pass(&mut self, instr: Instr) -> Event
@@ -160,7 +171,7 @@ impl Machine {
             Instr::Call(target) => self.pass(Instr::Call(target)),
             Instr::Alu(word) => {
                 if word.op() == 12 || word.stores() {
-                    self.make(Instr::Alu(word))
+                    self.make_alu(word)
                 } else {
                     self.pass(Instr::Alu(word))
                 }
