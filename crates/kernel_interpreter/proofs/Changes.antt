@@ -39,9 +39,10 @@ fails p cause c w h work es callers =
 pub stand_kept : (v w : World) (cells : List ℕ) → ((i : ℕ) → 1 ≤ i → i ≤ length cells →
     data_cell v (user_count_cell + 2 * i) ≡ data_cell w (user_count_cell + 2 * i)) → StandUp w cells → StandUp v cells
 stand_kept v w [] same stand = tt
-stand_kept v w (x ∷ cells) same stand =
-    (same (length (x ∷ cells)) (omega arith) (omega arith) ∙ stand.0,
-     stand_kept v w cells (λ i low high. same i low (omega (arith, high))) stand.1)
+stand_kept v w (x ∷ cells) same stand = (
+  same (length (x ∷ cells)) (omega arith) (omega arith) ∙ stand.0,
+  stand_kept v w cells (λ i low high. same i low (omega (arith, high))) stand.1,
+)
 
 -- the number of cells and then the newest are stored
 module _ (w : World) (h : IsDataSpace w) (n x : ℕ) (few : n ≤ 30) (f : x < 65536) where
@@ -68,5 +69,5 @@ module _ (w : World) (h : IsDataSpace w) (n x : ℕ) (few : n ≤ 30) (f : x < 6
   pub below_kept : (i : ℕ) → 1 ≤ i → i ≤ n → data_cell pushed (user_count_cell + 2 * i) ≡ data_cell w (user_count_cell + 2 * i)
   below_kept i low high =
       cell_kept counted (user_count_cell + 2 * (n + 1)) (user_count_cell + 2 * i) x (omega arith) (omega arith)
-          (λ e. omega (arith, e, high))
+      (λ e. omega (arith, e, high))
       ∙ cell_kept w user_count_cell (user_count_cell + 2 * i) (n + 1) (omega arith) (omega arith) (λ e. omega (arith, e, low))

@@ -10,4 +10,4 @@ abbrev pub choices : List Structure → List Node
 choices [] = Plain DropTop ∷ []
 choices (one ∷ others) =
     Plain Dup ∷ Literal one.token ∷ Plain Equal ∷ If (items (Plain TwoDrop ∷ Call one.definition ∷ Literal 0 ∷ Exit ∷ [])) Empty ∷
-        choices others
+    choices others

@@ -49,7 +49,7 @@ module _ (p : SourceProgram) where
 
       by : (o : Outcome) → and_then o (steps p k) ≡ Goes t →
           ((u : State) → steps p k u ≡ Goes t → spent_back p later (total + step_price s) (k + n) u
-              ≡ spent_back p later (spent p (total + step_price s) k u) n t) →
+          ≡ spent_back p later (spent p (total + step_price s) k u) n t) →
           spent_back_after later s (total + step_price s) o (λ rest u. spent_back p rest (total + step_price s) (k + n) u) ≡
           spent_back p later (spent_after (total + step_price s) o (spent p (total + step_price s) k)) n t
       by (Goes u) e same = same u e
@@ -108,8 +108,14 @@ module _ (p : SourceProgram) where
   -- ---- one run and then another
   pub within_back : {backs : List Return} {n b : ℕ} {s t : State} (m d : ℕ) → m ≤ n → d ≤ b → ComesBack p backs m d s t →
       ComesBack p backs n b s t
-  within_back m d h k r = record { count = r.count; paid = r.paid; run = r.run; price = r.price; few = omega (arith, r.few, h);
-      cheap = omega (arith, r.cheap, k) }
+  within_back m d h k r = record {
+    count = r.count;
+    paid = r.paid;
+    run = r.run;
+    price = r.price;
+    few = omega (arith, r.few, h);
+    cheap = omega (arith, r.cheap, k);
+  }
 
   pub then_back : {b b' : List Return} {m d m' d' : ℕ} {s t u : State} → ComesBack p b m d s t → ComesBack p b' m' d' t u →
       ComesBack p (b ++ b') (m + m') (d + d') s u
@@ -120,7 +126,7 @@ module _ (p : SourceProgram) where
         ∙ ap (λ n. steps_back p (b ++ (b' ++ later)) n s) (plus r.count q.count k) ∙ r.run (b' ++ later) (q.count + k) ∙ q.run later k;
     price = λ later total k. ap (λ l. spent_back p l total (r.count + q.count + k) s) (append_assoc b b' later)
         ∙ ap (λ n. spent_back p (b ++ (b' ++ later)) total n s) (plus r.count q.count k) ∙ r.price (b' ++ later) total (q.count + k)
-            ∙ q.price later (total + r.paid) k
+        ∙ q.price later (total + r.paid) k
         ∙ ap (λ x. spent_back p later x k u) (plus total r.paid q.paid);
     few = omega (arith, r.few, q.few);
     cheap = omega (arith, r.cheap, q.cheap);
@@ -154,10 +160,17 @@ module _ (p : SourceProgram) where
       ComesBack p backs (1 + i) (step_price s + j) s (record s { work = after; cells = c; world = w })
   unfolding steps spent
   calls_back {s = s} {after = after} {c = c} {w = w} definition i j same returns e =
-      then_back (stays (record { count = 1; run = ap (λ o. and_then o (steps p 0))
-          (e ∙ ap (λ z. Goes (record s { work = before z []; entries = [];
-          callers = record { work = after; entries = s.entries } ∷ s.callers })) same);
-        few = omega arith; paid = rw e (omega arith) })) (returns after s.entries s.callers)
+      then_back (stays (record {
+        count = 1;
+        run = ap (λ o. and_then o (steps p 0))
+            (e ∙ ap (λ z. Goes (record s {
+              work = before z [];
+              entries = [];
+              callers = record { work = after; entries = s.entries } ∷ s.callers;
+            })) same);
+        few = omega arith;
+        paid = rw e (omega arith);
+      })) (returns after s.entries s.callers)
 
 pub returns_stay : ReturnsStay
 returns_stay p body most highest c w c' w' r work es callers = stays p (r work es callers)
@@ -185,9 +198,9 @@ module _ (p : SourceProgram) (t : State) (a : ℕ) (w : World) (leaves : step p 
     where
       by : (o : Outcome) → and_then o (steps p k) ≡ Goes t →
           ((u : State) → steps p k u ≡ Goes t → spent p (total + step_price s) (k + 1) u
-              ≡ spent p (total + step_price s) k u + step_price t) →
+          ≡ spent p (total + step_price s) k u + step_price t) →
           spent_after (total + step_price s) o (spent p (total + step_price s) (k + 1))
-              ≡ spent_after (total + step_price s) o (spent p (total + step_price s) k) + step_price t
+          ≡ spent_after (total + step_price s) o (spent p (total + step_price s) k) + step_price t
       by (Goes u) f same = same u f
       by (Ends end v) f same = let no : ⊥ = cc in absurd no
 

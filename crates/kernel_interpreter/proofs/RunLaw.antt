@@ -32,7 +32,7 @@ unfolding step steps spent
 needs_are_known p code c w h work es callers =
     by_way p 5 14 44 refl (omega arith) (omega arith) (by_less (difference_of code return_words) return_words_size
     (λ less. rw (lt-ltb (difference_of code return_words) return_words_size less)
-        (by_way p 4 0 0 refl (omega arith) (omega arith) (there p)))
+    (by_way p 4 0 0 refl (omega arith) (omega arith) (there p)))
     (λ all. rw (le-ltb (difference_of code return_words) return_words_size all)
     (by_way p 8 6 30 refl (omega arith) (omega arith) (by_less (token_at code) 140
     (λ less. rw (lt-ltb (token_at code) 140 less) (by_way p 3 3 26 refl (omega arith) (omega arith) (rw (place_is (token_at code) less)
@@ -47,8 +47,13 @@ needs_are_known p code c w h work es callers =
 module _ (p : SourceProgram) (k : IsInterpreter p) (w : World) (h : IsDataSpace w) (code : ℕ) (c : List ℕ) (work : List Work)
     (es : List Entry) (callers : List Frame) where
   abbrev starts : State
-  starts = record { work = before try_body []; entries = []; callers = record { work = work; entries = es } ∷ callers; cells = code ∷ c;
-      world = w }
+  starts = record {
+    work = before try_body [];
+    entries = [];
+    callers = record { work = work; entries = es } ∷ callers;
+    cells = code ∷ c;
+    world = w;
+  }
 
   abbrev ends : World → State
   ends after = record { work = work; entries = es; callers = callers; cells = c; world = after }
@@ -70,7 +75,7 @@ module _ (p : SourceProgram) (k : IsInterpreter p) (w : World) (h : IsDataSpace 
       (by_word p Fetch 31 69 (reads w user_count_cell (code ∷ c) h (omega arith) (omega arith)) refl (omega arith) (omega arith)
       (by_way p 1 30 68 refl (omega arith) (omega arith)
       (by_call p need_place 19 54 10 13 k.need (needs_are_known p code (data_cell w user_count_cell ∷ code ∷ c) w h) refl (omega arith)
-          (omega arith)
+      (omega arith)
       (by_way p 1 9 12 refl (omega arith) (omega arith) (rw (lt-ltb (data_cell w user_count_cell) (cells_needed w code) less)
       (by_way p 2 7 10 refl (omega arith) (omega arith)
       (by_call p stack_fail_place 4 7 2 2 k.interpreter.stack_fail (fails p 4 c w h) refl (omega arith) (omega arith)
@@ -83,18 +88,27 @@ module _ (p : SourceProgram) (k : IsInterpreter p) (w : World) (h : IsDataSpace 
       (by_word p Fetch 31 71 (reads w user_count_cell (code ∷ c) h (omega arith) (omega arith)) refl (omega arith) (omega arith)
       (by_way p 1 30 70 refl (omega arith) (omega arith)
       (by_call p need_place 19 54 10 15 k.need (needs_are_known p code (data_cell w user_count_cell ∷ code ∷ c) w h) refl (omega arith)
-          (omega arith)
+      (omega arith)
       (by_way p 1 9 14 refl (omega arith) (omega arith) (rw (le-ltb (data_cell w user_count_cell) (cells_needed w code) all)
       (by_way p 1 8 13 refl (omega arith) (omega arith) calls))))))
     where
       call_is : (x : ℕ) → x < 65536 → sum_of (x / 2) 16384 ≡ 16384 + x / 2
       call_is x h = omega (arith, h)
 
-      calls : Comes p 8 13 (record { work = before (items (Call run_place ∷ [])) []; entries = [];
-          callers = record { work = work; entries = es } ∷ callers; cells = code ∷ c; world = w }) leaving
-      calls = by_way p 1 7 12 (ap (λ body. Goes (record { work = before body []; entries = [];
-          callers = record { work = []; entries = [] } ∷ record { work = work; entries = es } ∷ callers; cells = code ∷ c;
-          world = w })) k.run) (omega arith) (omega arith)
+      calls : Comes p 8 13 (record {
+        work = before (items (Call run_place ∷ [])) [];
+        entries = [];
+        callers = record { work = work; entries = es } ∷ callers;
+        cells = code ∷ c;
+        world = w;
+      }) leaving
+      calls = by_way p 1 7 12 (ap (λ body. Goes (record {
+        work = before body [];
+        entries = [];
+        callers = record { work = []; entries = [] } ∷ record { work = work; entries = es } ∷ callers;
+        cells = code ∷ c;
+        world = w;
+      })) k.run) (omega arith) (omega arith)
           (by_way p 5 2 4 refl (omega arith) (omega arith) (rw (call_is code f)
           (by_word p Store 1 2 (writes w run_call (16384 + code / 2) c h (omega arith) (omega arith)) refl (omega arith) (omega arith)
           (by_way p 1 0 0 refl (omega arith) (omega arith) (there p)))))
@@ -118,7 +132,7 @@ words_are_run p code c w k h f all = record {
       then_goes p 33 74 3 5 (omega arith) (omega arith) (leads_out p k w h code c work es callers f all)
       (then_stays p 1 3 2 2 (omega arith) (omega arith)
       (go_back p back (leaving p k w h code c work es callers) (behind back work es callers) run_code
-          (with_data_cell run_call (16384 + code / 2) w) refl refl)
+      (with_data_cell run_call (16384 + code / 2) w) refl refl)
       (by_way p 2 0 0 refl (omega arith) (omega arith) (there p)));
 }
   where

@@ -38,10 +38,10 @@ push_returns p n x c w h few f e work es callers =
     (by_word p Fetch 9 15 (reads_count w n (x ∷ c) h e) refl (omega arith) (omega arith)
     (by_way p 3 6 10 refl (omega arith) (omega arith)
     (by_word p Store 5 8 (writes w user_count_cell (sum_of n 1) (sum_of n 1 ∷ x ∷ c) h (omega arith) (omega arith)) refl (omega arith)
-        (omega arith)
+    (omega arith)
     (by_way p 3 2 3 refl (omega arith) (omega arith) (rw (next n few, place_is (n + 1) (omega (arith, few)))
     (by_word p Store 1 1 (writes (counted w h n x few f) (user_count_cell + 2 * (n + 1)) x c (counted_console w h n x few f).space
-        (omega arith) (omega (arith, few))) refl (omega arith) (omega arith)
+    (omega arith) (omega (arith, few))) refl (omega arith) (omega arith)
     (by_way p 1 0 0 refl (omega arith) (omega arith) (there p))))))))
   where
     next : (n : ℕ) → n ≤ 30 → sum_of n 1 ≡ n + 1
@@ -56,8 +56,10 @@ user_cells_are_pushed p x user c w h f u few =
       change = change;
       cells = record {
         count = change.count ∙ next (length user);
-        stand = (ap (λ n. data_cell (pushed w h (length user) x few f) (user_count_cell + 2 * n)) (sym (next (length user))) ∙ change.cell,
-            stand_kept (pushed w h (length user) x few f) w user (below_kept w h (length user) x few f) u.stand);
+        stand = (
+          ap (λ n. data_cell (pushed w h (length user) x few f) (user_count_cell + 2 * n)) (sym (next (length user))) ∙ change.cell,
+          stand_kept (pushed w h (length user) x few f) w user (below_kept w h (length user) x few f) u.stand,
+        );
       };
     }
   where
@@ -75,10 +77,10 @@ pop_returns p n x c w h few e f work es callers =
     (by_word p Store 6 8 (writes w user_count_cell n (suc n ∷ c) h (omega arith) (omega arith)) refl (omega arith) (omega arith)
     (by_way p 3 3 3 refl (omega arith) (omega arith) (rw (place_is (suc n) (omega (arith, few)))
     (by_word p Fetch 2 2 (reads (with_data_cell user_count_cell n w) (user_count_cell + 2 * suc n) c
-        (after_store w user_count_cell n h (omega (arith, few))).space (omega arith) (omega (arith, few))
+    (after_store w user_count_cell n h (omega (arith, few))).space (omega arith) (omega (arith, few))
     ∙ ap (λ y. Gives (y ∷ c) (with_data_cell user_count_cell n w))
-        (cell_kept w user_count_cell (user_count_cell + 2 * suc n) n (omega arith) (omega arith) (λ e. omega (arith, e)) ∙ f)) refl
-        (omega arith) (omega arith)
+    (cell_kept w user_count_cell (user_count_cell + 2 * suc n) n (omega arith) (omega arith) (λ e. omega (arith, e)) ∙ f)) refl
+    (omega arith) (omega arith)
     (by_way p 2 0 0 refl (omega arith) (omega arith) (there p)))))))))
   where
     before_it : (n : ℕ) → n ≤ 30 → difference_of (suc n) 1 ≡ n
@@ -95,7 +97,7 @@ user_cells_are_popped p x user c w h u few =
         count = change.cell;
         stand = stand_kept (with_data_cell user_count_cell (length user) w) w user
             (λ i low high. cell_kept w user_count_cell (user_count_cell + 2 * i) (length user) (omega arith) (omega arith)
-                (λ e. omega (arith, e, low))) u.stand.1;
+            (λ e. omega (arith, e, low))) u.stand.1;
       };
     }
 

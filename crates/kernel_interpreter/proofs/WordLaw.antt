@@ -50,7 +50,7 @@ find_is (header ∷ older) name a c = by (str_eq_ignore_ascii_case header.name n
   where
     by : (t : Bool) → find_answer older name a c ≡ answer_by (newest_named older name) a c →
         (if t then (flag_of header.immediate ∷ header.code ∷ c) else find_answer older name a c)
-            ≡ answer_by (if t then Some header else newest_named older name) a c
+        ≡ answer_by (if t then Some header else newest_named older name) a c
     by true same = refl
     by false same = same
 
@@ -108,8 +108,13 @@ definition_of (Some one) = one.definition
 
 module _ (p : SourceProgram) (w : World) (code : ℕ) (c : List ℕ) (work : List Work) (es : List Entry) (callers : List Frame) where
   abbrev choosing : List Structure → ℕ → State
-  choosing list token = record { work = before (items (choices list)) []; entries = [];
-      callers = record { work = work; entries = es } ∷ callers; cells = token ∷ code ∷ c; world = w }
+  choosing list token = record {
+    work = before (items (choices list)) [];
+    entries = [];
+    callers = record { work = work; entries = es } ∷ callers;
+    cells = token ∷ code ∷ c;
+    world = w;
+  }
 
   abbrev left : List ℕ → World → State
   left cells after = record { work = work; entries = es; callers = callers; cells = cells; world = after }
@@ -121,7 +126,7 @@ module _ (p : SourceProgram) (w : World) (code : ℕ) (c : List ℕ) (work : Lis
   chosen_none (one ∷ others) token e =
       by_way p 3 (4 * length others + 3) (5 * length others + 3) refl (omega arith) (omega arith) (by_cases (token == one.token)
       (λ t. let both : Some one ≡ None = subst (λ b. (if b then Some one else structure_with others token) ≡ None) t e in
-          let no : ⊥ = cc in absurd no)
+      let no : ⊥ = cc in absurd no)
       (λ t. rw t (by_way p 1 (4 * length others + 2) (5 * length others + 2) refl (omega arith) (omega arith)
       (chosen_none others token (subst (λ b. (if b then Some one else structure_with others token) ≡ None) t e)))))
 
@@ -136,8 +141,8 @@ module _ (p : SourceProgram) (w : World) (code : ℕ) (c : List ℕ) (work : Lis
       (λ t. rw t (by_way p 2 (3 + i) (4 + j) refl (omega arith) (omega arith)
       (by_call p one.definition i j 2 3 refl
       (subst (λ d. Returns p (body_of p d) i j c w c' w')
-          (sym (ap definition_of (subst (λ b. (if b then Some one else structure_with others token) ≡ Some it) t e))) r) refl (omega arith)
-          (omega arith)
+      (sym (ap definition_of (subst (λ b. (if b then Some one else structure_with others token) ≡ Some it) t e))) r) refl (omega arith)
+      (omega arith)
       (by_way p 2 0 0 refl (omega arith) (omega arith) (there p)))))
       (λ t. rw t (by_way p 1 (4 * length others + 4 + i) (5 * length others + 6 + j) refl (omega arith) (omega arith)
       (chosen_some others token it i j c' w' (subst (λ b. (if b then Some one else structure_with others token) ≡ Some it) t e) r))))
@@ -154,7 +159,7 @@ structure_done : (p : SourceProgram) (w : World) (code : ℕ) (c : List ℕ) (it
 unfolding step steps spent
 structure_done p w code c it i j c' w' e r work es callers =
     by_way p 5 (40 + i) (51 + j) refl (omega arith) (omega arith)
-        (chosen_some p w code c work es callers structures (token_at code) it i j c' w' e r)
+    (chosen_some p w code c work es callers structures (token_at code) it i j c' w' e r)
 
 -- ---- FOUND and PUT, outside definitions
 module _ (p : SourceProgram) (k : IsInterpreter p) (w : World) (h : IsDataSpace w) (outside : data_cell w state_cell ≡ 0) where
@@ -204,19 +209,24 @@ module _ (p : SourceProgram) (k : IsInterpreter p) (w : World) (headers : List H
   unfolding step steps spent
   word_is_found header x d c' w' e r work es callers =
       by_call p kernel_find_place finding finding (12 + x) (25 + d) k.words.kernel_find (finds (Some header) e) refl (omega arith)
-          (omega arith) (by header.immediate)
+      (omega arith) (by header.immediate)
     where
       by : (i : Bool) → Comes p (12 + x) (25 + d)
-          (record { work = before (skip 1 interpret_word_body) []; entries = []; callers = record { work = work; entries = es } ∷ callers;
-              cells = flag_of i ∷ header.code ∷ c; world = w })
+          (record {
+            work = before (skip 1 interpret_word_body) [];
+            entries = [];
+            callers = record { work = work; entries = es } ∷ callers;
+            cells = flag_of i ∷ header.code ∷ c;
+            world = w;
+          })
           (record { work = work; entries = es; callers = callers; cells = c'; world = w' })
       by true = by_way p 2 (10 + x) (12 + d) refl (omega arith) (omega arith)
           (by_call p found_place (7 + x) (9 + d) 2 2 k.found (found_returns p k w m.space m.outside true header.code c x d c' w' r) refl
-              (omega arith) (omega arith)
+          (omega arith) (omega arith)
           (by_way p 2 0 0 refl (omega arith) (omega arith) (there p)))
       by false = by_way p 2 (10 + x) (12 + d) refl (omega arith) (omega arith)
           (by_call p found_place (7 + x) (9 + d) 2 2 k.found (found_returns p k w m.space m.outside false header.code c x d c' w' r) refl
-              (omega arith) (omega arith)
+          (omega arith) (omega arith)
           (by_way p 2 0 0 refl (omega arith) (omega arith) (there p)))
 
   module _ (none : newest_named headers name ≡ None) (low : 2 ≤ data_cell w base_cell) (high : data_cell w base_cell ≤ 36) where
@@ -227,7 +237,7 @@ module _ (p : SourceProgram) (k : IsInterpreter p) (w : World) (headers : List H
         Returns p kernel_number_body (1000 * reading) (1300 * reading) (a ∷ c) w cells w
     reads_number cells e = subst (λ cells. Returns p kernel_number_body (1000 * reading) (1300 * reading) (a ∷ c) w cells w)
         (ap (λ text. number_answer (based_read (data_cell w base_cell) text) a c) m.text ∙ e)
-            (read p a c w k.words m.space low high m.low m.high)
+        (read p a c w k.words m.space low high m.low m.high)
 
     number_is_put : (x : ℕ) (w' : World) → based_read (data_cell w base_cell) name ≡ Value x →
         Returns p push_user_body 11 18 (x ∷ c) w c w' →
@@ -235,21 +245,21 @@ module _ (p : SourceProgram) (k : IsInterpreter p) (w : World) (headers : List H
     unfolding step steps spent
     number_is_put x w' e r work es callers =
         by_call p kernel_find_place finding finding (1000 * reading + 24) (1300 * reading + 44) k.words.kernel_find (finds None none) refl
-            (omega arith) (omega arith)
+        (omega arith) (omega arith)
         (by_way p 2 (1000 * reading + 22) (1300 * reading + 31) refl (omega arith) (omega arith)
         (by_call p kernel_number_place (1000 * reading) (1300 * reading) 21 30 k.words.kernel_number
-            (reads_number (65535 ∷ x ∷ c) (ap (λ r. number_answer r a c) e)) refl (omega arith) (omega arith)
+        (reads_number (65535 ∷ x ∷ c) (ap (λ r. number_answer r a c) e)) refl (omega arith) (omega arith)
         (by_way p 1 20 29 refl (omega arith) (omega arith)
         (by_call p put_place 16 24 3 4 k.put (put_returns p k w m.space m.outside x c w' r) refl (omega arith) (omega arith)
         (by_way p 3 0 0 refl (omega arith) (omega arith) (there p))))))
 
     word_fails : ((x : ℕ) → based_read (data_cell w base_cell) name ≢ Value x) →
         Returns p interpret_word_body (finding + 1000 * reading + 30) (finding + 1300 * reading + 50) (a ∷ c) w (0 ∷ c)
-            (with_data_cell error_cell 1 w)
+        (with_data_cell error_cell 1 w)
     unfolding step steps spent
     word_fails f work es callers =
         by_call p kernel_find_place finding finding (1000 * reading + 24) (1300 * reading + 44) k.words.kernel_find (finds None none) refl
-            (omega arith) (omega arith)
+        (omega arith) (omega arith)
         (by_way p 2 (1000 * reading + 22) (1300 * reading + 31) refl (omega arith) (omega arith)
         (by_call p kernel_number_place (1000 * reading) (1300 * reading) 21 30 k.words.kernel_number
         (reads_number (0 ∷ a ∷ c) (no_number (based_read (data_cell w base_cell) name) a c f)) refl (omega arith) (omega arith)
@@ -261,14 +271,14 @@ pub words_are_found : NamesAreFound → NumbersAreRead → WordsAreFound
 words_are_found named read p a name c w headers header k m e none work es callers =
     within p (4000 * (length headers + 1) + 13 + 43) (4000 * (length headers + 1) + 26 + 57) (omega arith) (omega arith)
     (word_is_found p k w headers a name m named read c header 43 57 (header.code ∷ c) w e
-        (structure_left p w header.code c none) work es callers)
+    (structure_left p w header.code c none) work es callers)
 
 pub structures_are_done : NamesAreFound → NumbersAreRead → StructuresAreDone
 structures_are_done named read p a name c w headers header one most highest c' w' k m e some r work es callers =
     within p (4000 * (length headers + 1) + 13 + (45 + most)) (4000 * (length headers + 1) + 26 + (61 + highest)) (omega arith)
-        (omega arith)
+    (omega arith)
     (word_is_found p k w headers a name m named read c header (45 + most) (61 + highest) (0 ∷ c') w' e
-        (structure_done p w header.code c one most highest c' w' some r) work es callers)
+    (structure_done p w header.code c one most highest c' w' some r) work es callers)
 
 pub numbers_are_taken : NamesAreFound → NumbersAreRead → NumbersAreTaken
 numbers_are_taken named read p a name c w headers x user k m none low high e u few =

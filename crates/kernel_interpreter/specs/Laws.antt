@@ -75,7 +75,7 @@ token_at code = difference_of (code / 2) 7
 abbrev pub cells_needed : World → ℕ → ℕ
 cells_needed w code =
     if nat_lt (difference_of code return_words) return_words_size then 99
-        else (if nat_lt (token_at code) 140 then data_byte w (needs + token_at code) else 0)
+    else (if nat_lt (token_at code) 140 then data_byte w (needs + token_at code) else 0)
 
 -- NEED ( xt -- n )
 abbrev pub NeedsAreKnown : Type 0
@@ -139,12 +139,12 @@ WordsAreFound =
 abbrev pub StructuresAreDone : Type 0
 StructuresAreDone =
     (p : SourceProgram) (a : ℕ) (name c : List ℕ) (w : World) (headers : List Header) (header : Header) (one : Structure) (most highest : ℕ)
-        (c' : List ℕ) (w' : World) →
+    (c' : List ℕ) (w' : World) →
     IsInterpreter p → MeetsName w headers a name → newest_named headers name ≡ Some header →
     structure_with structures (token_at header.code) ≡ Some one →
     Returns p (body_of p one.definition) most highest c w c' w' →
     Returns p interpret_word_body (4000 * (length headers + 1) + 70 + most) (4000 * (length headers + 1) + 100 + highest) (a ∷ c) w
-        (0 ∷ c') w'
+    (0 ∷ c') w'
 
 -- where none has it, and it is a number in BASE, that is put on the user's cells, and 0 is left
 pub record NumberIsTaken (p : SourceProgram) (a : ℕ) (c : List ℕ) (w : World) (headers : List Header) (x : ℕ) (user : List ℕ) : Type 0 where

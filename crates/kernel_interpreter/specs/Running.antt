@@ -30,8 +30,13 @@ pub record ComesBack (p : SourceProgram) (backs : List Return) (most highest : �
 abbrev pub LeavesBy : SourceProgram → Nodes → ℕ → ℕ → List ℕ → World → ℕ → World → Type 0
 LeavesBy p body most highest c w address w' =
     (work : List Work) (entries : List Entry) (callers : List Frame) →
-    ComesOut p most highest (record { work = before body []; entries = []; callers = record { work = work; entries = entries } ∷ callers;
-        cells = c; world = w }) address w'
+    ComesOut p most highest (record {
+      work = before body [];
+      entries = [];
+      callers = record { work = work; entries = entries } ∷ callers;
+      cells = c;
+      world = w;
+    }) address w'
 
 -- a definition with these items returns where its GOs come back with these returns: from any frame that called it, with these cells in this
 -- world, its body ends with those cells in that world, and the frame goes on

@@ -106,21 +106,32 @@ module _ (p : SourceProgram) where
   called_ends : {m d a e : ℕ} {s : State} {after : List Work} {body : Nodes} {end : End} {told : List ℕ} (definition : ℕ) →
       body_of p definition ≡ body →
       step p s ≡ Goes (called p definition (record s { work = after })) →
-      ComesToEnd p m d (record s { work = before body []; entries = [];
-          callers = record { work = after; entries = s.entries } ∷ s.callers }) end told →
+      ComesToEnd p m d (record s {
+        work = before body [];
+        entries = [];
+        callers = record { work = after; entries = s.entries } ∷ s.callers;
+      }) end told →
       1 + m ≤ a → step_price s + d ≤ e → ComesToEnd p a e s end told
   unfolding steps spent
   called_ends {s = s} {after = after} definition same e q f g = ends_then
-      (record { count = 1; run = ap (λ o. and_then o (steps p 0))
-          (e ∙ ap (λ z. Goes (record s { work = before z []; entries = [];
-          callers = record { work = after; entries = s.entries } ∷ s.callers })) same); few = omega arith; paid = rw e (omega arith) })
+      (record {
+        count = 1;
+        run = ap (λ o. and_then o (steps p 0))
+            (e ∙ ap (λ z. Goes (record s {
+              work = before z [];
+              entries = [];
+              callers = record { work = after; entries = s.entries } ∷ s.callers;
+            })) same);
+        few = omega arith;
+        paid = rw e (omega arith);
+      })
       q f g
 
 module _ (p : SourceProgram) (k : HasLines p) (c : List ℕ) (work : List Work) (es : List Entry) (callers : List Frame) where
   -- a byte of the line, up to the place before the next key
   turn : (b n m : ℕ) (v u : World) → b < 256 → b ≢ 10 → Returns p keep_byte_body 11 61 (blanked b ∷ n ∷ c) v (m ∷ c) u →
       Comes p 20 91 (stands p k c [] work es callers (in_test 1 read_line_body) (b ∷ n ∷ c) v)
-          (stands p k c [] work es callers (in_test 0 read_line_body) (m ∷ c) u)
+      (stands p k c [] work es callers (in_test 0 read_line_body) (m ∷ c) u)
   unfolding step steps spent
   turn b n m v u small other keeps =
       by_way p 3 17 87 refl (omega arith) (omega arith) (rw (unequal b 10 other)
@@ -132,16 +143,22 @@ module _ (p : SourceProgram) (k : HasLines p) (c : List ℕ) (work : List Work) 
   runs_out : (typed : List ℕ) (room n : ℕ) (w : World) (told : List ℕ) → n + room ≡ 80 → IsDataSpace w → IsTyped typed → w.input ≡ typed →
       w.printed ≡ told →
       ComesToEnd p (1 + 21 * length typed) (2 + 93 * length typed)
-          (stands p k c [] work es callers (in_test 0 read_line_body) (n ∷ c) w) InputEnded told
+      (stands p k c [] work es callers (in_test 0 read_line_body) (n ∷ c) w) InputEnded told
   unfolding step steps spent
-  runs_out [] room n w told e h t i q = record { count = 1; world = w; run = rw i refl; few = omega arith; paid = rw i (omega arith);
-      printed_is = q }
+  runs_out [] room n w told e h t i q = record {
+    count = 1;
+    world = w;
+    run = rw i refl;
+    few = omega arith;
+    paid = rw i (omega arith);
+    printed_is = q;
+  }
   runs_out (b ∷ typed) zero n w told e h t i q =
       let v = key_world b typed w in
       let hv = key_space w b typed h in
       let s = after_store v error_cell 5 hv (omega arith) in
       ends_then p {n = 21} {b = 93} (by_word p Key 20 91 (key_taken w b typed (n ∷ c) i) refl (omega arith) (omega arith)
-          (turn b n n v (with_data_cell error_cell 5 v) t.0 t.1 (byte_is_dropped p v hv (blanked b) n c (omega (arith, e)))))
+      (turn b n n v (with_data_cell error_cell 5 v) t.0 t.1 (byte_is_dropped p v hv (blanked b) n c (omega (arith, e)))))
       (runs_out typed zero n (with_data_cell error_cell 5 v) told e s.space t.2 s.input (s.printed ∙ q)) (omega arith) (omega arith)
   runs_out (b ∷ typed) (suc room) n w told e h t i q =
       let v = key_world b typed w in
@@ -149,9 +166,9 @@ module _ (p : SourceProgram) (k : HasLines p) (c : List ℕ) (work : List Work) 
       let s = after_byte_store v (line_buffer + n) (blanked b) hv in
       ends_then p {n = 21} {b = 93} (by_word p Key 20 91 (key_taken w b typed (n ∷ c) i) refl (omega arith) (omega arith)
       (turn b n (suc n) v (with_data_byte (line_buffer + n) (blanked b) v) t.0 t.1
-          (byte_is_kept p v hv (blanked b) n c (omega (arith, e)))))
+      (byte_is_kept p v hv (blanked b) n c (omega (arith, e)))))
       (runs_out typed room (suc n) (with_data_byte (line_buffer + n) (blanked b) v) told (omega (arith, e)) s.space t.2 s.input
-          (s.printed ∙ q)) (omega arith) (omega arith)
+      (s.printed ∙ q)) (omega arith) (omega arith)
 
 pub input_ends : InputEnds
 unfolding step steps spent

@@ -35,10 +35,10 @@ begins : (p : SourceProgram) (c : List ℕ) (w : World) (todo : List Work) (m d 
 unfolding step steps spent
 begins p c w todo m d n b work es callers {t = t} (inl e) f g r =
     subst (λ todo. Comes p n b (interprets work es callers todo c w) t) (sym e)
-        (by_way p {n = n} {b = b} {s = interprets work es callers (before interpret_body []) c w} 1 m d refl f g r)
+    (by_way p {n = n} {b = b} {s = interprets work es callers (before interpret_body []) c w} 1 m d refl f g r)
 begins p c w todo m d n b work es callers {t = t} (inr e) f g r =
     subst (λ todo. Comes p n b (interprets work es callers todo c w) t) (sym e)
-        (by_way p {n = n} {b = b} {s = interprets work es callers further_word c w} 1 m d refl f g r)
+    (by_way p {n = n} {b = b} {s = interprets work es callers further_word c w} 1 m d refl f g r)
 
 pub errors_end_lines : ErrorsEndLines
 unfolding step steps spent
@@ -51,14 +51,14 @@ pub lines_end : LinesEnd
 unfolding step steps spent
 lines_end p c w todo k h before_word e kernel next work es callers =
     begins p c w todo (409 + 400 * data_cell w length_cell) (338 + 250 * data_cell w length_cell) (410 + 400 * data_cell w length_cell)
-        (340 + 250 * data_cell w length_cell) work es callers before_word (omega arith) (omega arith)
+    (340 + 250 * data_cell w length_cell) work es callers before_word (omega arith) (omega arith)
     (by_word p Fetch (408 + 400 * data_cell w length_cell) (337 + 250 * data_cell w length_cell)
-        (reads w error_cell c h (omega arith) (omega arith)) refl (omega arith) (omega arith) (rw e
+    (reads w error_cell c h (omega arith) (omega arith)) refl (omega arith) (omega arith) (rw e
     (by_way p 1 (407 + 400 * data_cell w length_cell) (336 + 250 * data_cell w length_cell) refl (omega arith) (omega arith)
     (by_call p next_word_place (400 * (data_cell w length_cell + 1))
-        (300 + 250 * data_cell w length_cell) 3 26 kernel.next_word next.run refl (omega arith) (omega arith)
+    (300 + 250 * data_cell w length_cell) 3 26 kernel.next_word next.run refl (omega arith) (omega arith)
     (by_word p CFetch 2 2 (reads_byte next.after word_buffer c next.console.space (omega arith) (omega arith)) refl (omega arith)
-        (omega arith) (rw next.count
+    (omega arith) (rw next.count
     (by_way p 2 0 0 refl (omega arith) (omega arith) (there p))))))))
 
 -- ---- a word
@@ -72,22 +72,22 @@ unfolding step steps spent
 words_are_begun p c w todo word words next most highest code found k kernel h before_word e some does work es callers =
     let many = some_bytes word words (data_byte next.after word_buffer) some next.count in
     begins p c w todo (410 + 400 * data_cell w length_cell + most) (345 + 250 * data_cell w length_cell + highest)
-        (411 + 400 * data_cell w length_cell + most) (347 + 250 * data_cell w length_cell + highest)
+    (411 + 400 * data_cell w length_cell + most) (347 + 250 * data_cell w length_cell + highest)
     work es callers before_word (omega arith) (omega arith)
     (by_word p Fetch (409 + 400 * data_cell w length_cell + most) (344 + 250 * data_cell w length_cell + highest)
-        (reads w error_cell c h (omega arith) (omega arith)) refl (omega arith) (omega arith) (rw e
+    (reads w error_cell c h (omega arith) (omega arith)) refl (omega arith) (omega arith) (rw e
     (by_way p 1 (408 + 400 * data_cell w length_cell + most) (343 + 250 * data_cell w length_cell + highest) refl (omega arith)
-        (omega arith)
+    (omega arith)
     (by_call p next_word_place (400 * (data_cell w length_cell + 1)) (300 + 250 * data_cell w length_cell) (7 + most)
-        (42 + highest) kernel.next_word next.run refl (omega arith) (omega arith)
+    (42 + highest) kernel.next_word next.run refl (omega arith) (omega arith)
     (by_word p CFetch (6 + most) (18 + highest) (reads_byte next.after word_buffer c next.console.space (omega arith) (omega arith)) refl
-        (omega arith) (omega arith) (rw many.1
+    (omega arith) (omega arith) (rw many.1
     (by_way p 2 (4 + most) (15 + highest) refl (omega arith) (omega arith)
     (by_call p interpret_word_place most highest 3 14 refl does refl (omega arith) (omega arith) (ends code)))))))))
   where
     ends : (code : ℕ) → Comes p 3 14
         (interprets work es callers (before (items (Plain QDup ∷ If (items (Call try_place ∷ [])) Empty ∷ [])) behind_word)
-            (code ∷ c) found) (word_met work es callers (body_of p try_place) code c found)
+        (code ∷ c) found) (word_met work es callers (body_of p try_place) code c found)
     ends zero = by_way p 2 0 0 refl (omega arith) (omega arith) (there p)
     ends (suc code) = by_way p 3 0 0 refl (omega arith) (omega arith) (there p)
 
@@ -101,11 +101,11 @@ words_are_ended p c done k check keep work es callers =
 pub words_are_done : WordsAreDone
 words_are_done p c w todo word words next most highest done k kernel h before_word e some does check keep work es callers =
     within p (411 + 400 * data_cell w length_cell + most + 43) (347 + 250 * data_cell w length_cell + highest + 69) (omega arith)
-        (omega arith)
+    (omega arith)
     (followed p (words_are_begun p c w todo word words next most highest 0 done k kernel h before_word e some does work es callers)
-        (words_are_ended p c done k check keep work es callers))
+    (words_are_ended p c done k check keep work es callers))
 
 pub words_have_bytes : WordsHaveBytes
 words_have_bytes text word words e =
     All-head (λ x. has_byte x ≡ true) word words (subst (All (λ x. has_byte x ≡ true)) e
-        (filter_passes has_byte (slice_split (λ c. c == 32) text)))
+    (filter_passes has_byte (slice_split (λ c. c == 32) text)))

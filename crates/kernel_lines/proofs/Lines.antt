@@ -33,9 +33,17 @@ begins_call : (p : SourceProgram) {n b : ℕ} {s u : State} {after : List Work} 
 unfolding steps spent
 begins_call p {s = s} {after = after} definition m d same e f g r =
     within p (1 + m) (step_price s + d) f g (followed p
-    (record { count = 1; run = ap (λ o. and_then o (steps p 0))
-        (e ∙ ap (λ z. Goes (record s { work = before z []; entries = [];
-        callers = record { work = after; entries = s.entries } ∷ s.callers })) same); few = omega arith; paid = rw e (omega arith) })
+    (record {
+      count = 1;
+      run = ap (λ o. and_then o (steps p 0))
+          (e ∙ ap (λ z. Goes (record s {
+            work = before z [];
+            entries = [];
+            callers = record { work = after; entries = s.entries } ∷ s.callers;
+          })) same);
+      few = omega arith;
+      paid = rw e (omega arith);
+    })
     r)
 
 abbrev set_up : List (ℕ × ℕ)
@@ -67,9 +75,9 @@ lines_are_done p c w typed left k h t e =
           (ap₂ (λ x y. x + y) start reached)
           ∙ bytes_alike v u (length (kept_line 80 typed)) line_buffer
           (λ a low high. byte_kept (stored ((source_cell, line_buffer) ∷ (reached_cell, 0) ∷ []) v) level_cell a 0 (omega arith)
-              (omega (arith, low)) (λ f. omega (arith, f, high, few))
+          (omega (arith, low)) (λ f. omega (arith, f, high, few))
           ∙ byte_kept (stored ((source_cell, line_buffer) ∷ []) v) reached_cell a 0 (omega arith) (omega (arith, low))
-              (λ f. omega (arith, f, high, few))
+          (λ f. omega (arith, f, high, few))
           ∙ byte_kept v source_cell a line_buffer (omega arith) (omega (arith, low)) (λ f. omega (arith, f, high, few)))
           ∙ r.line;
       source = record { low = omega (arith, start); high = omega (arith, start, size, few); place = omega (arith, reached) };
@@ -78,15 +86,15 @@ lines_are_done p c w typed left k h t e =
           (cells_at (source_cell ∷ reached_cell ∷ level_cell ∷ [])) w v u r.does.others b.others;
       begins = λ work es callers.
           by_call p read_line_place (20 + 24 * length typed) (30 + 120 * length typed) 10 19 k.read_line r.does.run refl (omega arith)
-              (omega arith)
+          (omega arith)
           (by_way p 2 8 15 refl (omega arith) (omega arith)
           (by_word p Store 7 13 (writes v source_cell line_buffer c hv (omega arith) (omega arith)) refl (omega arith) (omega arith)
           (by_way p 2 5 9 refl (omega arith) (omega arith)
           (by_word p Store 4 7 (writes (stored ((source_cell, line_buffer) ∷ []) v) reached_cell 0 c b1.console.space (omega arith)
-              (omega arith)) refl (omega arith) (omega arith)
+          (omega arith)) refl (omega arith) (omega arith)
           (by_way p 2 2 3 refl (omega arith) (omega arith)
           (by_word p Store 1 1 (writes (stored ((source_cell, line_buffer) ∷ (reached_cell, 0) ∷ []) v) level_cell 0 c b2.console.space
-              (omega arith) (omega arith)) refl (omega arith) (omega arith)
+          (omega arith) (omega arith)) refl (omega arith) (omega arith)
           (begins_call p interpret_place 0 0 k.interpreter.interpret refl (omega arith) (omega arith) (there p))))))));
       ends = λ most highest done interprets hd texts.
           let reply = replies_are_given p c done k hd texts in
@@ -94,20 +102,20 @@ lines_are_done p c w typed left k h t e =
             after = reply.after;
             run = λ work es callers.
                 by_call p read_line_place (20 + 24 * length typed) (30 + 120 * length typed) (92 + most)
-                    (1621 + 80 * data_byte done word_buffer + highest) k.read_line r.does.run refl (omega arith) (omega arith)
+                (1621 + 80 * data_byte done word_buffer + highest) k.read_line r.does.run refl (omega arith) (omega arith)
                 (by_way p 2 (90 + most) (1617 + 80 * data_byte done word_buffer + highest) refl (omega arith) (omega arith)
                 (by_word p Store (89 + most) (1615 + 80 * data_byte done word_buffer + highest)
-                    (writes v source_cell line_buffer c hv (omega arith) (omega arith)) refl (omega arith) (omega arith)
+                (writes v source_cell line_buffer c hv (omega arith) (omega arith)) refl (omega arith) (omega arith)
                 (by_way p 2 (87 + most) (1611 + 80 * data_byte done word_buffer + highest) refl (omega arith) (omega arith)
                 (by_word p Store (86 + most) (1609 + 80 * data_byte done word_buffer + highest)
-                    (writes (stored ((source_cell, line_buffer) ∷ []) v) reached_cell 0 c b1.console.space (omega arith) (omega arith)) refl
-                    (omega arith) (omega arith)
+                (writes (stored ((source_cell, line_buffer) ∷ []) v) reached_cell 0 c b1.console.space (omega arith) (omega arith)) refl
+                (omega arith) (omega arith)
                 (by_way p 2 (84 + most) (1605 + 80 * data_byte done word_buffer + highest) refl (omega arith) (omega arith)
                 (by_word p Store (83 + most) (1603 + 80 * data_byte done word_buffer + highest)
-                    (writes (stored ((source_cell, line_buffer) ∷ (reached_cell, 0) ∷ []) v) level_cell 0 c b2.console.space (omega arith)
-                    (omega arith)) refl (omega arith) (omega arith)
+                (writes (stored ((source_cell, line_buffer) ∷ (reached_cell, 0) ∷ []) v) level_cell 0 c b2.console.space (omega arith)
+                (omega arith)) refl (omega arith) (omega arith)
                 (by_call p interpret_place most highest 82 (1602 + 80 * data_byte done word_buffer) k.interpreter.interpret interprets refl
-                    (omega arith) (omega arith)
+                (omega arith) (omega arith)
                 (by_call p reply_place 80 (1600 + 80 * data_byte done word_buffer) 1 1 k.reply reply.run refl (omega arith) (omega arith)
                 (by_way p 1 0 0 refl (omega arith) (omega arith) (there p))))))))));
             input = reply.input;
@@ -131,7 +139,7 @@ module _ (p : SourceProgram) (k : HasLines p) where
   main_goes_on_so w [] f = there p
   main_goes_on_so w (line ∷ lines) f =
       by_call p one_line_place line.most line.highest (2 + most_steps lines) (3 + whole_price lines) k.one_line f.0 refl (omega arith)
-          (omega arith)
+      (omega arith)
       (by_way p 2 (most_steps lines) (whole_price lines) refl (omega arith) (omega arith) (main_goes_on_so line.after lines f.1))
 
 pub main_goes_on_law : MainGoesOn
@@ -142,7 +150,7 @@ unfolding step steps spent
 main_repeats_lines p w k h back line lines f =
     by_call p reset_place 29 54 (most_steps (line ∷ lines)) (whole_price (line ∷ lines)) k.reset back.run refl (omega arith) (omega arith)
     (by_call p one_line_place line.most line.highest (2 + most_steps lines) (3 + whole_price lines) k.one_line f.0 refl (omega arith)
-        (omega arith)
+    (omega arith)
     (by_way p 2 (most_steps lines) (whole_price lines) refl (omega arith) (omega arith) (main_goes_on_so p k line.after lines f.1)))
 
 -- ---- around a line
@@ -150,13 +158,13 @@ pub lines_are_replied : LinesAreReplied
 unfolding step steps spent
 lines_are_replied p c done k reply work es callers =
     by_call p reply_place 80 (1600 + 80 * data_byte done word_buffer) 1 1 k.reply reply.run refl (omega arith) (omega arith)
-        (by_way p 1 0 0 refl (omega arith) (omega arith) (there p))
+    (by_way p 1 0 0 refl (omega arith) (omega arith) (there p))
 
 pub first_line_begins : FirstLineBegins
 unfolding step steps spent
 first_line_begins p w k back =
     by_call p reset_place 29 54 1 1 k.reset back.run refl (omega arith) (omega arith)
-        (begins_call p one_line_place 0 0 k.one_line refl (omega arith) (omega arith) (there p))
+    (begins_call p one_line_place 0 0 k.one_line refl (omega arith) (omega arith) (there p))
 
 pub lines_begin : LinesBegin
 unfolding step steps spent

@@ -37,7 +37,7 @@ moved_bytes : (w v : World) (n a b : ℕ) → ((i : ℕ) → i < n → data_byte
 moved_bytes w v zero a b f = refl
 moved_bytes w v (suc n) a b f = ap₂ (λ x xs. x ∷ xs) (ap (data_byte v) (plain b) ∙ f 0 (omega arith) ∙ ap (data_byte w) (sym (plain a)))
     (moved_bytes w v n (suc a) (suc b) (λ i less. ap (data_byte v) (next b i) ∙ f (suc i) (omega (arith, less))
-        ∙ ap (data_byte w) (sym (next a i))))
+    ∙ ap (data_byte w) (sym (next a i))))
   where
     plain : (a : ℕ) → a ≡ a + 0
     plain a = omega arith
@@ -48,7 +48,7 @@ moved_bytes w v (suc n) a b f = ap₂ (λ x xs. x ∷ xs) (ap (data_byte v) (pla
 module _ (p : SourceProgram) (c : List ℕ) (w : World) (first size : ℕ) (s : HasSource w (data_cell w source_cell)) (apart : SourceIsApart w)
     (n : IsNextWord w 32 (data_cell w source_cell) first size)
     (k : WordIsKept p next_word_body (400 * (data_cell w length_cell + 1)) (300 + 250 * data_cell w length_cell) c c w
-        (data_cell w source_cell) first size (kept_size size)) where
+    (data_cell w source_cell) first size (kept_size size)) where
   abbrev ranges : List (ℕ × ℕ)
   ranges = (reached_cell, 2) ∷ (word_buffer, 82) ∷ []
 
@@ -106,9 +106,11 @@ module _ (p : SourceProgram) (c : List ℕ) (w : World) (first size : ℕ) (s : 
 
   -- without a word nothing is left
   none_left : size ≡ 0 → rest - suc size ≡ 0
-  none_left e = elim (leading_ends w (data_cell w length_cell - data_cell w reached_cell) from) as (λ _. rest - suc size ≡ 0)
-      [ inl none ↦ (let r = rest_is in omega (arith, r, none)) | inr other ↦ some rest size n.ends
-          (ap (λ a. 32 == data_byte w a) n.begins ∙ other) e ]
+  none_left e = elim (leading_ends w (data_cell w length_cell - data_cell w reached_cell) from) as (λ _. rest - suc size ≡ 0) [
+    | inl none ↦ (let r = rest_is in omega (arith, r, none))
+    | inr other ↦ some rest size n.ends
+        (ap (λ a. 32 == data_byte w a) n.begins ∙ other) e
+  ]
     where
       some : (m x : ℕ) → x ≡ bytes_before w 32 m first → (32 == data_byte w first) ≡ false → x ≡ 0 → m - suc x ≡ 0
       some zero x q o z = omega arith
@@ -129,18 +131,20 @@ module _ (p : SourceProgram) (c : List ℕ) (w : World) (first size : ℕ) (s : 
       let f : first + size ≡ data_cell w source_cell + data_cell w length_cell = eqb-true _ _ e in
       let at : data_cell k.after reached_cell ≡ data_cell w length_cell = k.place ∙ if_true _ (data_cell w length_cell) _ e in
       let none : data_cell k.after length_cell - data_cell k.after reached_cell ≡ 0 = (let l = size_same in omega (arith, l, at)) in
-      let also : rest - suc size ≡ 0 = omega (arith, f) in
-      (ap (λ m. data_bytes k.after m (data_cell k.after source_cell + data_cell k.after reached_cell)) none
-          ∙ ap (λ m. data_bytes w m (suc (first + size))) (sym also), omega (arith, at)))
+      let also : rest - suc size ≡ 0 = omega (arith, f) in (
+        ap (λ m. data_bytes k.after m (data_cell k.after source_cell + data_cell k.after reached_cell)) none
+            ∙ ap (λ m. data_bytes w m (suc (first + size))) (sym also),
+        omega (arith, at),
+      ))
       (λ e.
       let b = inside in
       let b0 = b.0 in
       let b1 = b.1 in
       let b2 = b.2 in
       let at : data_cell k.after reached_cell ≡ first + size + 1 - data_cell w source_cell =
-          k.place ∙ if_false _ (data_cell w length_cell) _ e in
+      k.place ∙ if_false _ (data_cell w length_cell) _ e in
       let less : first + size < data_cell w source_cell + data_cell w length_cell =
-          below (first + size) (data_cell w source_cell + data_cell w length_cell) (omega (arith, b0, b2)) e in
+      below (first + size) (data_cell w source_cell + data_cell w length_cell) (omega (arith, b0, b2)) e in
       let l = size_same in
       let t = start_same in
       let many : data_cell k.after length_cell - data_cell k.after reached_cell ≡ rest - suc size = omega (arith, l, at, b1, less) in
@@ -174,7 +178,7 @@ module _ (p : SourceProgram) (c : List ℕ) (w : World) (first size : ℕ) (s : 
 pub next_words_are_read : NextWordsAreKept → NextWordsAreRead
 next_words_are_read law p c w k h s apart =
     let first = data_cell w source_cell + data_cell w reached_cell
-        + leading_bytes w 32 (data_cell w length_cell - data_cell w reached_cell) (data_cell w source_cell + data_cell w reached_cell) in
+    + leading_bytes w 32 (data_cell w length_cell - data_cell w reached_cell) (data_cell w source_cell + data_cell w reached_cell) in
     let size = bytes_before w 32 (data_cell w source_cell + data_cell w length_cell - first) first in
     let n : IsNextWord w 32 (data_cell w source_cell) first size = record { begins = refl; ends = refl } in
     let kept = law p c w first size k h s apart n in
@@ -195,8 +199,11 @@ turns law (word ∷ words) p c w k h s apart e =
       next,
       turns law words p c next.after k next.console.space
           (record { low = omega (arith, start, low); high = omega (arith, start, size, high); place = omega (arith, size, place) })
-          (elim apart as (λ _. SourceIsApart next.after) [ inl under ↦ inl (omega (arith, under, start, size)) | inr over ↦ inr
-              (omega (arith, over, start)) ])
+          (elim apart as (λ _. SourceIsApart next.after) [
+            | inl under ↦ inl (omega (arith, under, start, size))
+            | inr over ↦ inr
+                (omega (arith, over, start))
+          ])
           next.left,
     )
 

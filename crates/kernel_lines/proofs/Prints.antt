@@ -87,8 +87,11 @@ pub line_feed : (w : World) → Printed (10 ∷ []) w (emit 10 w)
 line_feed w = record { after = printed_byte 10 w; prints = emitted 10 w; is = byte_prints 10 w (omega arith) }
 
 pub text_printed : (n a : ℕ) (w : World) → IsDataSpace w → 8192 ≤ a → a + n ≤ 16384 → Printed (data_bytes w n a) w (type_out n a w)
-text_printed zero a w h low high = record { after = w; prints = refl;
-    is = record { start = refl; cells = refl; input = refl; printed = nothing_more w.printed } }
+text_printed zero a w h low high = record {
+  after = w;
+  prints = refl;
+  is = record { start = refl; cells = refl; input = refl; printed = nothing_more w.printed };
+}
 text_printed (suc n) a w h low high =
     let b = byte_prints (data_byte w a) w (byte_fits w a h) in
     let v = printed_byte (data_byte w a) w in
@@ -120,4 +123,4 @@ module _ (p : SourceProgram) where
       Comes p m d (record s { work = after; world = v }) u → Comes p n b s u
   by_text {s = s} {after = after} address size m d known e h g r =
       within p (1 + m) (step_price s + d) h g (followed p
-          (one (e ∙ ap (λ x. on_cells (x ▸ λ _. Gives s.cells) (record s { work = after })) known)) r)
+      (one (e ∙ ap (λ x. on_cells (x ▸ λ _. Gives s.cells) (record s { work = after })) known)) r)

@@ -56,9 +56,9 @@ module _ (p : SourceProgram) (w : World) (h : IsDataSpace w) (b n : ℕ) (c : Li
       by_way p 3 8 57 refl (omega arith) (omega arith) (rw (lt-ltb n 80 few)
       (by_way p 4 4 52 refl (omega arith) (omega arith) (rw (place n few)
       (by_word p CStore 3 4 (writes_byte w (line_buffer + n) b (n ∷ c) h (omega arith) (omega (arith, few))) refl (omega arith)
-          (omega arith)
+      (omega arith)
       (by_way p 3 0 0 refl (omega arith) (omega arith) (renamed p
-          (ap (λ x. record { work = work; entries = es; callers = callers; cells = x ∷ c; world = with_data_byte (line_buffer + n) b w })
+      (ap (λ x. record { work = work; entries = es; callers = callers; cells = x ∷ c; world = with_data_byte (line_buffer + n) b w })
       (one_more n (omega (arith, few)))) (there p)))))))
     where
       place : (n : ℕ) → n < 80 → sum_of n line_buffer ≡ line_buffer + n
@@ -89,7 +89,7 @@ line_byte w b n h few =
       kept = λ a low out.
           let f = out_of a line_buffer 80 [] out in
           byte_beside w (line_buffer + n) a b h (omega arith) (omega (arith, few)) low
-              (λ e. let less = f.here (λ more. omega (arith, more, e, few)) in omega (arith, less, e));
+          (λ e. let less = f.here (λ more. omega (arith, more, e, few)) in omega (arith, less, e));
     } in
     record { space = q.space; state = state_outside ((line_buffer, 80) ∷ []) w (with_data_byte (line_buffer + n) b w) o refl; others = o }
 
@@ -107,15 +107,20 @@ tail_of (b ∷ typed) left = typed ++ 10 ∷ left
 
 module _ (p : SourceProgram) (k : HasLines p) (c : List ℕ) (left : List ℕ) where
   abbrev pub stands : List Work → List Entry → List Frame → List Work → List ℕ → World → State
-  stands work es callers todo cells w = record { work = todo; entries = []; callers = record { work = work; entries = es } ∷ callers;
-      cells = cells; world = w }
+  stands work es callers todo cells w = record {
+    work = todo;
+    entries = [];
+    callers = record { work = work; entries = es } ∷ callers;
+    cells = cells;
+    world = w;
+  }
 
   -- where the first byte was taken from the input, n bytes stand in LINE, and there is room for more
   record Reads (room n : ℕ) (typed : List ℕ) (w : World) : Type 0 where
     after : World
     way : (work : List Work) (es : List Entry) (callers : List Frame) →
         Comes p (5 + 21 * length typed) (7 + 93 * length typed)
-            (stands work es callers (in_test 1 read_line_body) (head_of typed ∷ n ∷ c) (key_world (head_of typed) (tail_of typed left) w))
+        (stands work es callers (in_test 1 read_line_body) (head_of typed ∷ n ∷ c) (key_world (head_of typed) (tail_of typed left) w))
         (stands work es callers (before (past_of read_line_body) []) (10 ∷ (n + length (kept_line room typed)) ∷ c) after)
     input : after.input ≡ left
     printed : after.printed ≡ w.printed
@@ -132,7 +137,7 @@ module _ (p : SourceProgram) (k : HasLines p) (c : List ℕ) (left : List ℕ) w
         after = v;
         way = λ work es callers. by_way p 5 0 0 refl (omega arith) (omega arith)
             (renamed p (ap (λ x. stands work es callers (before (past_of read_line_body) []) (10 ∷ x ∷ c) v)
-                (plus n ∙ ap (λ t. n + length t) (sym none))) (there p));
+            (plus n ∙ ap (λ t. n + length t) (sym none))) (there p));
         input = refl;
         printed = refl;
         state_is = key_state w 10 left ∙ ap (λ b. record (kernel_state w) { error = if b then 5 else data_cell w error_cell })
@@ -150,7 +155,7 @@ module _ (p : SourceProgram) (k : HasLines p) (c : List ℕ) (left : List ℕ) w
       u.input ≡ b' ∷ input →
       (work : List Work) (es : List Entry) (callers : List Frame) →
       Comes p 21 93 (stands work es callers (in_test 1 read_line_body) (b ∷ n ∷ c) v)
-          (stands work es callers (in_test 1 read_line_body) (b' ∷ m ∷ c) (key_world b' input u))
+      (stands work es callers (in_test 1 read_line_body) (b' ∷ m ∷ c) (key_world b' input u))
   unfolding step steps spent
   turn b n m b' input v u small other keeps e work es callers =
       by_way p 3 18 89 refl (omega arith) (omega arith) (rw (unequal b 10 other)
@@ -186,23 +191,25 @@ module _ (p : SourceProgram) (k : HasLines p) (c : List ℕ) (left : List ℕ) w
       let q = after_store v error_cell 5 hv (omega arith) in
       let r = reads typed zero n u e q.space t.2 in
       let su : kernel_state u ≡ record (kernel_state w) { error = 5 } =
-          state_stored v error_cell 5 hv refl ∙ ap (stored_state error_cell 5) (key_state w b (typed ++ 10 ∷ left)) in
+      state_stored v error_cell 5 hv refl ∙ ap (stored_state error_cell 5) (key_state w b (typed ++ 10 ∷ left)) in
       let o = changes_behind ((line_buffer, 80) ∷ []) (cells_at (error_cell ∷ [])) v u
-          (cell_changes v error_cell 5 hv (omega arith) refl) in
+      (cell_changes v error_cell 5 hv (omega arith) refl) in
       record {
         after = r.after;
         way = λ work es callers. within p (21 + (5 + 21 * length typed)) (93 + (7 + 93 * length typed)) (omega arith) (omega arith)
             (followed p (turn b n n (head_of typed) (tail_of typed left) v u t.0 t.1
-                (byte_is_dropped p v hv (blanked b) n c (omega (arith, e))) (q.input ∙ input_is typed) work es callers)
-                (r.way work es callers));
+            (byte_is_dropped p v hv (blanked b) n c (omega (arith, e))) (q.input ∙ input_is typed) work es callers)
+            (r.way work es callers));
         input = r.input;
         printed = r.printed ∙ q.printed;
         state_is = r.state_is ∙ ap (overrun (nat_lt 0 (length typed))) su
             ∙ ap (λ x. record (kernel_state w) { error = x })
-                (either (nat_lt 0 (length typed)) 5 ∙ ap (λ y. if y then 5 else data_cell w error_cell)
-                (sym (lt-ltb 0 (suc (length typed)) (omega arith))));
-        others = changes_more line_ranges w u r.after (record { space = q.space;
-            kept = λ a low out. o.kept a low out ∙ key_byte w b (typed ++ 10 ∷ left) a }) r.others;
+            (either (nat_lt 0 (length typed)) 5 ∙ ap (λ y. if y then 5 else data_cell w error_cell)
+            (sym (lt-ltb 0 (suc (length typed)) (omega arith))));
+        others = changes_more line_ranges w u r.after (record {
+          space = q.space;
+          kept = λ a low out. o.kept a low out ∙ key_byte w b (typed ++ 10 ∷ left) a;
+        }) r.others;
         old = λ a low high. r.old a low high ∙ byte_kept v error_cell a 5 (omega arith) (omega (arith, low))
             (λ f. omega (arith, f, high, e)) ∙ key_byte w b (typed ++ 10 ∷ left) a;
         line = refl;
@@ -219,23 +226,25 @@ module _ (p : SourceProgram) (k : HasLines p) (c : List ℕ) (left : List ℕ) w
         after = r.after;
         way = λ work es callers. within p (21 + (5 + 21 * length typed)) (93 + (7 + 93 * length typed)) (omega arith) (omega arith)
             (followed p (turn b n (suc n) (head_of typed) (tail_of typed left) v u t.0 t.1 (byte_is_kept p v hv (blanked b) n c few)
-                (console_of (blanked b) n v hv ∙ input_is typed) work es callers)
+            (console_of (blanked b) n v hv ∙ input_is typed) work es callers)
             (renamed p (ap (λ x. stands work es callers (before (past_of read_line_body) []) (10 ∷ x ∷ c) r.after)
-                (plus n (length (kept_line room typed)))) (r.way work es callers)));
+            (plus n (length (kept_line room typed)))) (r.way work es callers)));
         input = r.input;
         printed = r.printed ∙ printed_of (blanked b) n v hv;
         state_is = r.state_is ∙ ap (overrun (nat_lt room (length typed))) (q.state ∙ key_state w b (typed ++ 10 ∷ left))
             ∙ ap (λ y. record (kernel_state w) { error = if y then 5 else data_cell w error_cell }) (next_less room (length typed));
-        others = changes_more line_ranges w u r.after (record { space = q.space;
-            kept = λ a low out. o.kept a low out ∙ key_byte w b (typed ++ 10 ∷ left) a }) r.others;
+        others = changes_more line_ranges w u r.after (record {
+          space = q.space;
+          kept = λ a low out. o.kept a low out ∙ key_byte w b (typed ++ 10 ∷ left) a;
+        }) r.others;
         old = λ a low high. r.old a low (omega (arith, high))
             ∙ byte_beside v (line_buffer + n) a (blanked b) hv (omega arith) (omega (arith, few)) (omega (arith, low))
             (λ f. omega (arith, f, high))
             ∙ key_byte w b (typed ++ 10 ∷ left) a;
         line = ap₂ (λ x xs. x ∷ xs)
             (r.old (line_buffer + n) (omega arith) (omega arith)
-                ∙ byte_stored v (line_buffer + n) (blanked b) hv (omega arith) (omega (arith, few))
-                ∙ small (blanked b) (blanked_fits b t.0))
+            ∙ byte_stored v (line_buffer + n) (blanked b) hv (omega arith) (omega (arith, few))
+            ∙ small (blanked b) (blanked_fits b t.0))
             (ap (λ a. data_bytes r.after (length (kept_line room typed)) a) (next n) ∙ r.line);
       }
     where
@@ -272,13 +281,13 @@ lines_are_read p c w typed left k h t e =
         run = λ work es callers.
             by_way p 1 (19 + 24 * length typed) (28 + 120 * length typed) refl (omega arith) (omega arith)
             (by_word p Key (9 + 21 * length typed) (20 + 93 * length typed)
-                (key_taken w (head_of typed) (tail_of typed left) (0 ∷ c) (e ∙ input_is p k c left typed)) refl (omega arith) (omega arith)
+            (key_taken w (head_of typed) (tail_of typed left) (0 ∷ c) (e ∙ input_is p k c left typed)) refl (omega arith) (omega arith)
             (within p (5 + 21 * length typed + 4) (7 + 93 * length typed + 7) (omega arith) (omega arith)
             (followed p (r.way work es callers)
             (rw (none (length (kept_line 80 typed)))
             (by_way p 2 2 4 refl (omega arith) (omega arith)
             (by_word p Store 1 1 (writes r.after length_cell (length (kept_line 80 typed)) c r.others.space (omega arith)
-                (omega arith)) refl (omega arith) (omega arith)
+            (omega arith)) refl (omega arith) (omega arith)
             (by_way p 1 0 0 refl (omega arith) (omega arith) (there p))))))));
         input = q.input ∙ r.input;
         printed = q.printed ∙ r.printed ∙ nothing_more w.printed;
@@ -290,7 +299,7 @@ lines_are_read p c w typed left k h t e =
       line = bytes_alike r.after (with_data_cell length_cell (length (kept_line 80 typed)) r.after)
           (length (kept_line 80 typed)) line_buffer
           (λ a low high. byte_kept r.after length_cell a (length (kept_line 80 typed)) (omega arith) (omega (arith, low))
-              (λ f. omega (arith, f, high, few))) ∙ r.line;
+          (λ f. omega (arith, f, high, few))) ∙ r.line;
     }
   where
     none : (n : ℕ) → 0 + n ≡ n

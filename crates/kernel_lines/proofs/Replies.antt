@@ -43,14 +43,19 @@ module _ (p : SourceProgram) (k : HasLines p) (c : List ℕ) where
   say_word_returns w h work es callers =
       by_way p 1 3 (81 + 80 * data_byte w word_buffer) refl (omega arith) (omega arith)
       (by_word p Count 2 (41 + 80 * data_byte w word_buffer)
-          (ap (λ r. r ▸ λ x. Gives (x ∷ suc word_buffer ∷ c)) (byte_fetched w word_buffer h (omega arith) (omega arith))) refl (omega arith)
-          (omega arith)
+      (ap (λ r. r ▸ λ x. Gives (x ∷ suc word_buffer ∷ c)) (byte_fetched w word_buffer h (omega arith) (omega arith))) refl (omega arith)
+      (omega arith)
       (by_word p TypeOut 1 1 (ap (λ r. r ▸ λ _. Gives c) (word_printed w h).prints) refl (omega arith) (omega arith)
       (by_way p 1 0 0 refl (omega arith) (omega arith) (there p))))
 
   abbrev works : List Work → List Entry → List Frame → List Work → World → State
-  works work es callers todo w = record { work = todo; entries = []; callers = record { work = work; entries = es } ∷ callers; cells = c;
-      world = w }
+  works work es callers todo w = record {
+    work = todo;
+    entries = [];
+    callers = record { work = work; entries = es } ∷ callers;
+    cells = c;
+    world = w;
+  }
 
   -- what is printed on the way from some work to other, whoever called
   record Says (most highest : ℕ) (from : List Work) (w : World) (todo : List Work) (told : List ℕ) : Type 0 where
@@ -148,12 +153,12 @@ module _ (p : SourceProgram) (k : HasLines p) (c : List ℕ) where
       let h' = space_kept _ w s.after s.is h in
       let e' = cell_same _ w s.after s.is error_cell ∙ e in
       told (word_read w ++ data_bytes w 2 unknown_text ++ 10 ∷ [])
-          (ap (λ x. complaint x (word_read w)) e ∙ ap (λ b. word_read w ++ b ++ 10 ∷ []) (sym t.unknown))
+      (ap (λ x. complaint x (word_read w)) e ∙ ap (λ b. word_read w ++ b ++ 10 ∷ []) (sym t.unknown))
       s.after s.is
       (λ work es callers. followed p (is_it work es callers w 1 (said unknown_text 2) (rest_of 5) h f1)
-          (followed p (s.way work es callers) (followed p (other work es callers s.after 1 4 (said stack_text 8) (rest_of 10) h' e' refl)
+      (followed p (s.way work es callers) (followed p (other work es callers s.after 1 4 (said stack_text 8) (rest_of 10) h' e' refl)
       (followed p (other work es callers s.after 1 5 last_told (rest_of 15) h' e' refl)
-          (other work es callers s.after 1 6 (said full_text 7) (rest_of 20) h' e' refl))))) (omega arith) (omega arith))
+      (other work es callers s.after 1 6 (said full_text 7) (rest_of 20) h' e' refl))))) (omega arith) (omega arith))
       (λ f1. by_cases (data_cell w error_cell == 4)
       (λ f4.
       let e = eqb-true (data_cell w error_cell) 4 f4 in
@@ -161,12 +166,12 @@ module _ (p : SourceProgram) (k : HasLines p) (c : List ℕ) where
       let h' = space_kept _ w s.after s.is h in
       let e' = cell_same _ w s.after s.is error_cell ∙ e in
       told (word_read w ++ data_bytes w 8 stack_text ++ 10 ∷ [])
-          (ap (λ x. complaint x (word_read w)) e ∙ ap (λ b. word_read w ++ b ++ 10 ∷ []) (sym t.stack))
+      (ap (λ x. complaint x (word_read w)) e ∙ ap (λ b. word_read w ++ b ++ 10 ∷ []) (sym t.stack))
       s.after s.is
       (λ work es callers. followed p (is_not work es callers w 1 (said unknown_text 2) (rest_of 5) h f1)
-          (followed p (is_it work es callers w 4 (said stack_text 8) (rest_of 10) h f4) (followed p (s.way work es callers)
+      (followed p (is_it work es callers w 4 (said stack_text 8) (rest_of 10) h f4) (followed p (s.way work es callers)
       (followed p (other work es callers s.after 4 5 last_told (rest_of 15) h' e' refl)
-          (other work es callers s.after 4 6 (said full_text 7) (rest_of 20) h' e' refl))))) (omega arith) (omega arith))
+      (other work es callers s.after 4 6 (said full_text 7) (rest_of 20) h' e' refl))))) (omega arith) (omega arith))
       (λ f4. by_cases (data_cell w error_cell == 5)
       (λ f5.
       let e = eqb-true (data_cell w error_cell) 5 f5 in
@@ -176,35 +181,38 @@ module _ (p : SourceProgram) (k : HasLines p) (c : List ℕ) where
       told (data_bytes w 15 long_text ++ 10 ∷ []) (ap (λ x. complaint x (word_read w)) e ∙ ap (λ b. b ++ 10 ∷ []) (sym t.long))
       s.after s.is
       (λ work es callers. followed p (is_not work es callers w 1 (said unknown_text 2) (rest_of 5) h f1)
-          (followed p (is_not work es callers w 4 (said stack_text 8) (rest_of 10) h f4)
+      (followed p (is_not work es callers w 4 (said stack_text 8) (rest_of 10) h f4)
       (followed p (is_it work es callers w 5 last_told (rest_of 15) h f5)
-          (followed p (s.way work es callers) (other work es callers s.after 5 6 (said full_text 7) (rest_of 20) h' e' refl)))))
-          (omega arith) (omega arith))
+      (followed p (s.way work es callers) (other work es callers s.after 5 6 (said full_text 7) (rest_of 20) h' e' refl)))))
+      (omega arith) (omega arith))
       (λ f5. by_cases (data_cell w error_cell == 6)
       (λ f6.
       let e = eqb-true (data_cell w error_cell) 6 f6 in
       let s = says w full_text 7 (before (rest_of 20) []) h (omega arith) (omega arith) (omega arith) in
       told (word_read w ++ data_bytes w 7 full_text ++ 10 ∷ [])
-          (ap (λ x. complaint x (word_read w)) e ∙ ap (λ b. word_read w ++ b ++ 10 ∷ []) (sym t.full))
+      (ap (λ x. complaint x (word_read w)) e ∙ ap (λ b. word_read w ++ b ++ 10 ∷ []) (sym t.full))
       s.after s.is
       (λ work es callers. followed p (is_not work es callers w 1 (said unknown_text 2) (rest_of 5) h f1)
-          (followed p (is_not work es callers w 4 (said stack_text 8) (rest_of 10) h f4)
+      (followed p (is_not work es callers w 4 (said stack_text 8) (rest_of 10) h f4)
       (followed p (is_not work es callers w 5 last_told (rest_of 15) h f5)
-          (followed p (is_it work es callers w 6 (said full_text 7) (rest_of 20) h f6) (s.way work es callers))))) (omega arith)
-          (omega arith))
+      (followed p (is_it work es callers w 6 (said full_text 7) (rest_of 20) h f6) (s.way work es callers))))) (omega arith)
+      (omega arith))
       (λ f6.
       told [] (rw (f1, f4, f5, f6) refl) w (record { start = refl; cells = refl; input = refl; printed = nothing_more w.printed })
       (λ work es callers. followed p (is_not work es callers w 1 (said unknown_text 2) (rest_of 5) h f1)
-          (followed p (is_not work es callers w 4 (said stack_text 8) (rest_of 10) h f4)
+      (followed p (is_not work es callers w 4 (said stack_text 8) (rest_of 10) h f4)
       (followed p (is_not work es callers w 5 last_told (rest_of 15) h f5)
-          (is_not work es callers w 6 (said full_text 7) (rest_of 20) h f6)))) (omega arith) (omega arith)))))
+      (is_not work es callers w 6 (said full_text 7) (rest_of 20) h f6)))) (omega arith) (omega arith)))))
     where
       told : {m d : ℕ} (words : List ℕ) → complaint (data_cell w error_cell) (word_read w) ≡ words → (v : World) → Prints words w v →
           ((work : List Work) (es : List Entry) (callers : List Frame) →
-              Comes p m d (works work es callers (before complain_body []) w) (works work es callers (before (rest_of 20) []) v)) → m ≤ 27 →
-              d ≤ 1278 + 80 * data_byte w word_buffer → Complains w (complaint (data_cell w error_cell) (word_read w))
-      told {m = m} {d = d} words e v q r f g = record { after = v; way = λ work es callers. within p m d f g (r work es callers);
-          is = subst (λ x. Prints x w v) (sym e) q }
+          Comes p m d (works work es callers (before complain_body []) w) (works work es callers (before (rest_of 20) []) v)) → m ≤ 27 →
+          d ≤ 1278 + 80 * data_byte w word_buffer → Complains w (complaint (data_cell w error_cell) (word_read w))
+      told {m = m} {d = d} words e v q r f g = record {
+        after = v;
+        way = λ work es callers. within p m d f g (r work es callers);
+        is = subst (λ x. Prints x w v) (sym e) q;
+      }
 
   -- ---- and then the user cells are dropped, and the kernel is set back
   abbrev dropped : ℕ → KernelState → KernelState
@@ -242,7 +250,7 @@ module _ (p : SourceProgram) (k : HasLines p) (c : List ℕ) where
             (by_word p Fetch 7 12 (reads w error_cell c h (omega arith) (omega arith)) refl (omega arith) (omega arith)
             (by_way p 2 5 9 refl (omega arith) (omega arith) (rw e (by_way p 4 1 2 refl (omega arith) (omega arith)
             (by_word p Store 0 0 (writes w user_count_cell 0 c h (omega arith) (omega arith)) refl (omega arith) (omega arith)
-                (there p))))));
+            (there p))))));
         input = q.input;
         printed = q.printed;
         state_is = rw e (state_stored w user_count_cell 0 h refl);
@@ -278,7 +286,7 @@ module _ (p : SourceProgram) (k : HasLines p) (c : List ℕ) where
 
   reply_does : (w : World) (h : IsDataSpace w) → HasTexts w →
       Does p reply_body 80 (1600 + 80 * data_byte w word_buffer) c w c w.input (reply_text (data_cell w error_cell) (word_read w))
-          (replied (kernel_state w)) (cells_at (user_count_cell ∷ set_back_cells))
+      (replied (kernel_state w)) (cells_at (user_count_cell ∷ set_back_cells))
   unfolding step steps spent
   reply_does w h t = by_zero (data_cell w error_cell)
       (λ e.
@@ -307,7 +315,7 @@ module _ (p : SourceProgram) (k : HasLines p) (c : List ℕ) where
         run = λ work es callers.
             by_way p 1 79 (1590 + 80 * data_byte w word_buffer) refl (omega arith) (omega arith)
             (by_word p Fetch 78 (1580 + 80 * data_byte w word_buffer) (reads w error_cell c h (omega arith) (omega arith)) refl
-                (omega arith) (omega arith) (rw e
+            (omega arith) (omega arith) (rw e
             (by_way p 1 77 (1570 + 80 * data_byte w word_buffer) refl (omega arith) (omega arith)
             (by_call p complain_place 67 (1350 + 80 * data_byte w word_buffer) 2 2 k.complain d.run refl (omega arith) (omega arith)
             (by_way p 2 0 0 refl (omega arith) (omega arith) (there p))))));

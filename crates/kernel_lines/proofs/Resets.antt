@@ -36,10 +36,10 @@ module _ (p : SourceProgram) (w : World) (h : IsDataSpace w) (c : List ℕ) wher
       (by_word p Store 7 13 (writes w open_count_cell 0 c h (omega arith) (omega arith)) refl (omega arith) (omega arith)
       (by_way p 2 5 9 refl (omega arith) (omega arith)
       (by_word p Store 4 7 (writes (stored ((open_count_cell, 0) ∷ []) w) leaves_cell 0 c b1.console.space (omega arith) (omega arith)) refl
-          (omega arith) (omega arith)
+      (omega arith) (omega arith)
       (by_way p 2 2 3 refl (omega arith) (omega arith)
       (by_word p Store 1 1 (writes (stored ((open_count_cell, 0) ∷ (leaves_cell, 0) ∷ []) w) loops_cell 0 c b2.console.space (omega arith)
-          (omega arith)) refl (omega arith) (omega arith)
+      (omega arith)) refl (omega arith) (omega arith)
       (by_way p 1 0 0 refl (omega arith) (omega arith) (there p)))))))
 
 -- the stores of RESET before CLOSE-ALL and with it, and all of them
@@ -70,32 +70,32 @@ kernel_is_set_back p c w k h =
     let b3 = behind first_stores w h (refl, z, (refl, z, (refl, z, tt))) in
     let b6 = behind closed_stores w h (refl, z, (refl, z, (refl, z, (refl, z, (refl, z, (refl, z, tt)))))) in
     let b7 = behind (here_stores (data_cell w kept_here_cell)) w h
-        (refl, z, (refl, z, (refl, z, (refl, z, (refl, z, (refl, z, (refl, fx, tt))))))) in
+    (refl, z, (refl, z, (refl, z, (refl, z, (refl, z, (refl, z, (refl, fx, tt))))))) in
     does_by p reset_body 29 54 c c (all_stores (data_cell w kept_here_cell) (data_cell w kept_latest_cell)) w h
-        (refl, z, (refl, z, (refl, z, (refl, z, (refl, z, (refl, z, (refl, fx, (refl, fy, tt))))))))
+    (refl, z, (refl, z, (refl, z, (refl, z, (refl, z, (refl, z, (refl, fx, (refl, fy, tt))))))))
     (λ work es callers.
     by_way p 2 27 50 refl (omega arith) (omega arith)
     (by_word p Store 26 48 (writes w state_cell 0 c h (omega arith) (omega arith)) refl (omega arith) (omega arith)
     (by_way p 2 24 44 refl (omega arith) (omega arith)
     (by_word p Store 23 42 (writes (stored ((state_cell, 0) ∷ []) w) new_cell 0 c b1.console.space (omega arith) (omega arith)) refl
-        (omega arith) (omega arith)
+    (omega arith) (omega arith)
     (by_way p 2 21 38 refl (omega arith) (omega arith)
     (by_word p Store 20 36 (writes (stored ((state_cell, 0) ∷ (new_cell, 0) ∷ []) w) error_cell 0 c b2.console.space (omega arith)
-        (omega arith)) refl (omega arith) (omega arith)
+    (omega arith)) refl (omega arith) (omega arith)
     (by_call p close_all_place 10 19 9 15 k.interpreter.close_all (close_all_returns p (stored first_stores w) b3.console.space c) refl
-        (omega arith) (omega arith)
+    (omega arith) (omega arith)
     (by_way p 1 8 13 refl (omega arith) (omega arith)
     (by_word p Fetch 7 12 (reads (stored closed_stores w) kept_here_cell c b6.console.space (omega arith) (omega arith)) refl (omega arith)
-        (omega arith)
+    (omega arith)
     (rw (ap (λ s. s.kept_here) b6.state)
     (by_way p 1 6 10 refl (omega arith) (omega arith)
     (by_word p Store 5 8 (writes (stored closed_stores w) here_cell (data_cell w kept_here_cell) c b6.console.space (omega arith)
-        (omega arith)) refl (omega arith) (omega arith)
+    (omega arith)) refl (omega arith) (omega arith)
     (by_way p 1 4 6 refl (omega arith) (omega arith)
     (by_word p Fetch 3 5 (reads (stored (here_stores (data_cell w kept_here_cell)) w) kept_latest_cell c b7.console.space (omega arith)
-        (omega arith)) refl (omega arith) (omega arith)
+    (omega arith)) refl (omega arith) (omega arith)
     (rw (ap (λ s. s.kept_latest) b7.state)
     (by_way p 1 2 3 refl (omega arith) (omega arith)
     (by_word p Store 1 1 (writes (stored (here_stores (data_cell w kept_here_cell)) w) latest_cell
-        (data_cell w kept_latest_cell) c b7.console.space (omega arith) (omega arith)) refl (omega arith) (omega arith)
+    (data_cell w kept_latest_cell) c b7.console.space (omega arith) (omega arith)) refl (omega arith) (omega arith)
     (by_way p 1 0 0 refl (omega arith) (omega arith) (there p)))))))))))))))))))

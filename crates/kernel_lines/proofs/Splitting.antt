@@ -29,7 +29,7 @@ module _ (w : World) where
   leading_skipped (suc n) a = by_cases (32 == data_byte w a)
       (λ e. blank_first (data_byte w a) (data_bytes w n (suc a)) (turned (data_byte w a) true e) ∙ leading_skipped n (suc a)
       ∙ ap₂ (λ m b. words_of (data_bytes w m b)) (less n (leading_bytes w 32 n (suc a))) (more a (leading_bytes w 32 n (suc a)))
-          ∙ rw e refl)
+      ∙ rw e refl)
       (λ e. rw e (ap₂ (λ m b. words_of (data_bytes w m b)) (all n) (none a)))
     where
       less : (n l : ℕ) → n - l ≡ suc n - suc l
@@ -49,9 +49,9 @@ module _ (w : World) where
   leading_ends zero a = inl refl
   leading_ends (suc n) a = by_cases (32 == data_byte w a)
       (λ e. rw e (subst (λ m. (m ≡ 0) ⊎ ((32 == data_byte w (a + suc (leading_bytes w 32 n (suc a)))) ≡ false))
-          (less n (leading_bytes w 32 n (suc a)))
+      (less n (leading_bytes w 32 n (suc a)))
       (subst (λ b. (n - leading_bytes w 32 n (suc a) ≡ 0) ⊎ ((32 == data_byte w b) ≡ false)) (more a (leading_bytes w 32 n (suc a)))
-          (leading_ends n (suc a)))))
+      (leading_ends n (suc a)))))
       (λ e. inr (rw e (ap (λ b. 32 == data_byte w b) (none a) ∙ e)))
     where
       less : (n l : ℕ) → n - l ≡ suc n - suc l
@@ -73,9 +73,9 @@ module _ (w : World) where
   parts (suc m) f = by_cases (32 == data_byte w f)
       (λ e. slice_split-cons_yes is_blank (data_byte w f) (data_bytes w m (suc f)) (turned (data_byte w f) true e) ∙ rw e (now m f))
       (λ e. slice_split-cons_no is_blank (data_byte w f) (data_bytes w m (suc f)) (turned (data_byte w f) false e)
-          ∙ ap (onto_first (data_byte w f)) (parts m (suc f))
+      ∙ ap (onto_first (data_byte w f)) (parts m (suc f))
       ∙ rw e (ap (λ ps. (data_byte w f ∷ data_bytes w (bytes_before w 32 m (suc f)) (suc f)) ∷ ps)
-          (later m (bytes_before w 32 m (suc f)) f)))
+      (later m (bytes_before w 32 m (suc f)) f)))
     where
       one : (m : ℕ) → m ≡ suc m - 1
       one m = omega arith
@@ -86,7 +86,7 @@ module _ (w : World) where
       now : (m f : ℕ) → [] ∷ slice_split is_blank (data_bytes w m (suc f)) ≡ [] ∷ parts_behind (suc m) 0 f
       now m f = ap₂ (λ n a. [] ∷ slice_split is_blank (data_bytes w n a)) (one m) (none f)
           ∙ ap (λ t. [] ∷ (if t then slice_split is_blank (data_bytes w (suc m - 1) (suc (f + 0))) else []))
-              (sym (lt-ltb 0 (suc m) (omega arith)))
+          (sym (lt-ltb 0 (suc m) (omega arith)))
 
       next_less : (s m : ℕ) → nat_lt s m ≡ nat_lt (suc s) (suc m)
       next_less s m = by_less s m (λ less. lt-ltb s m less ∙ sym (lt-ltb (suc s) (suc m) (omega (arith, less))))
@@ -161,9 +161,9 @@ unfolding AreShort
 short_parts [] = (omega arith, tt)
 short_parts (c ∷ text) = by_cases (is_blank c)
     (λ e. subst (AreShort (suc (length text))) (sym (slice_split-cons_yes is_blank c text e))
-        (omega arith, short_in_more (length text) (suc (length text)) (slice_split is_blank text) (omega arith) (short_parts text)))
+    (omega arith, short_in_more (length text) (suc (length text)) (slice_split is_blank text) (omega arith) (short_parts text)))
     (λ e. subst (AreShort (suc (length text))) (sym (slice_split-cons_no is_blank c text e))
-        (short_onto (length text) c (slice_split is_blank text) (short_parts text)))
+    (short_onto (length text) c (slice_split is_blank text) (short_parts text)))
 
 short_words : (n : ℕ) (words : List (List ℕ)) → AreShort n words → AreShort n (filter has_byte words)
 unfolding AreShort
@@ -181,6 +181,6 @@ pub words_are_whole : WordsAreWhole
 unfolding AreShort
 words_are_whole text word words f e =
     let s : AreShort (length text) (word ∷ words) = subst (AreShort (length text)) e
-        (short_words (length text) (slice_split is_blank text) (short_parts text)) in
+    (short_words (length text) (slice_split is_blank text) (short_parts text)) in
     let g = s.0 in
     front_is_whole 80 word (omega (arith, f, g))

@@ -54,9 +54,9 @@ field w a b x h p q =
     let eb = pb.aligned in
     by_cases (a == b)
     (λ e. let same : a ≡ b = eqb-true a b e in cell_stored w a b x h la pa.high (omega (arith, same))
-        ∙ sym (if_true (a == b) x (data_cell w b) e))
+    ∙ sym (if_true (a == b) x (data_cell w b) e))
     (λ e. cell_kept w a b x la lb (λ f. let t : (a == b) ≡ true = eq-eqb a b (omega (arith, f, ea, eb)) in let no : ⊥ = cc in absurd no)
-        ∙ sym (if_false (a == b) x (data_cell w b) e))
+    ∙ sym (if_false (a == b) x (data_cell w b) e))
 
 abbrev pub stored_state : ℕ → ℕ → KernelState → KernelState
 stored_state a x s = record {
@@ -83,11 +83,11 @@ pub state_stored : (w : World) (a x : ℕ) → IsDataSpace w → is_place a ≡ 
     kernel_state (with_data_cell a x w) ≡ stored_state a x (kernel_state w)
 state_stored w a x h p = state_by w (with_data_cell a x w) (stored_state a x (kernel_state w))
     (field w a base_cell x h p refl) (field w a here_cell x h p refl) (field w a length_cell x h p refl) (field w a reached_cell x h p refl)
-        (field w a latest_cell x h p refl)
+    (field w a latest_cell x h p refl)
     (field w a source_cell x h p refl) (field w a error_cell x h p refl) (field w a state_cell x h p refl) (field w a new_cell x h p refl)
-        (field w a kept_here_cell x h p refl)
+    (field w a kept_here_cell x h p refl)
     (field w a kept_latest_cell x h p refl) (field w a first_here_cell x h p refl) (field w a user_count_cell x h p refl)
-        (field w a open_count_cell x h p refl)
+    (field w a open_count_cell x h p refl)
     (field w a leaves_cell x h p refl) (field w a loops_cell x h p refl) (field w a level_cell x h p refl)
 
 -- ---- ranges
@@ -104,8 +104,11 @@ or_parts false false e f = absurd cc
 pub out_of : (a first size : ℕ) (ranges : List (ℕ × ℕ)) → is_outside a ((first, size) ∷ ranges) ≡ true → OutOf a first size ranges
 out_of a first size ranges e =
     let x = and_parts (nat_lt a first || nat_le (first + size) a) (is_outside a ranges) e in
-    record { here = λ no. leb-true (suc a) first (or_parts (nat_lt a first) (nat_le (first + size) a) x.0
-        (λ f. no (leb-true (first + size) a f))); rest = x.1 }
+    record {
+      here = λ no. leb-true (suc a) first (or_parts (nat_lt a first) (nat_le (first + size) a) x.0
+          (λ f. no (leb-true (first + size) a f)));
+      rest = x.1;
+    }
 
 pub outside_first : (a : ℕ) (xs ys : List (ℕ × ℕ)) → is_outside a (xs ++ ys) ≡ true → is_outside a xs ≡ true
 outside_first a [] ys e = refl
@@ -123,8 +126,10 @@ unchanged ranges w h = record { space = h; kept = λ a low out. refl }
 
 -- one change and then another
 pub changes_then : (xs ys : List (ℕ × ℕ)) (u v w : World) → OnlyChanges xs u v → OnlyChanges ys v w → OnlyChanges (xs ++ ys) u w
-changes_then xs ys u v w f g = record { space = g.space;
-    kept = λ a low out. g.kept a low (outside_rest a xs ys out) ∙ f.kept a low (outside_first a xs ys out) }
+changes_then xs ys u v w f g = record {
+  space = g.space;
+  kept = λ a low out. g.kept a low (outside_rest a xs ys out) ∙ f.kept a low (outside_first a xs ys out);
+}
 
 -- what may change in more ranges
 pub changes_before : (xs ys : List (ℕ × ℕ)) (v w : World) → OnlyChanges xs v w → OnlyChanges (xs ++ ys) v w
@@ -183,15 +188,15 @@ pub state_but_reached : (ranges : List (ℕ × ℕ)) (w v : World) (x : ℕ) →
 state_but_reached ranges w v x f e o =
     let a1 = and_parts _ _ o in let a2 = and_parts _ _ a1.1 in let a3 = and_parts _ _ a2.1 in let a5 = and_parts _ _ a3.1 in
     let a6 = and_parts _ _ a5.1 in let a7 = and_parts _ _ a6.1 in let a8 = and_parts _ _ a7.1 in let a9 = and_parts _ _ a8.1 in
-        let a10 = and_parts _ _ a9.1 in
+    let a10 = and_parts _ _ a9.1 in
     let a11 = and_parts _ _ a10.1 in let a12 = and_parts _ _ a11.1 in let a13 = and_parts _ _ a12.1 in let a14 = and_parts _ _ a13.1 in
-        let a15 = and_parts _ _ a14.1 in
+    let a15 = and_parts _ _ a14.1 in
     let a16 = and_parts _ _ a15.1 in
     state_by w v (record (kernel_state w) { reached = x })
     (at base_cell refl a1.0) (at here_cell refl a2.0) (at length_cell refl a3.0) e (at latest_cell refl a5.0) (at source_cell refl a6.0)
-        (at error_cell refl a7.0)
+    (at error_cell refl a7.0)
     (at state_cell refl a8.0) (at new_cell refl a9.0) (at kept_here_cell refl a10.0) (at kept_latest_cell refl a11.0)
-        (at first_here_cell refl a12.0) (at user_count_cell refl a13.0)
+    (at first_here_cell refl a12.0) (at user_count_cell refl a13.0)
     (at open_count_cell refl a14.0) (at leaves_cell refl a15.0) (at loops_cell refl a16.0) (at level_cell refl a16.1)
   where
     at : (a : ℕ) → is_cell_outside a ((reached_cell, 2) ∷ []) ≡ true → is_cell_outside a ranges ≡ true → data_cell v a ≡ data_cell w a
@@ -204,14 +209,14 @@ state_but_reached ranges w v x f e o =
         let y3 = and_parts (is_outside a ((reached_cell, 2) ∷ [])) _ y2.1 in
         let low : 8192 ≤ a = leb-true 8192 a x1.0 in
         cell_alike v w a (eqb-true _ _ x2.0) (f.kept a low (ap₂ (λ s t. s && t) (and_parts _ _ y3.0).0 x3.0))
-            (f.kept (suc a) (omega (arith, low)) (ap₂ (λ s t. s && t) (and_parts _ _ y3.1).0 x3.1))
+        (f.kept (suc a) (omega (arith, low)) (ap₂ (λ s t. s && t) (and_parts _ _ y3.1).0 x3.1))
 
 pub state_outside : (ranges : List (ℕ × ℕ)) (w v : World) → OnlyChanges ranges w v → is_state_outside ranges ≡ true →
     kernel_state v ≡ kernel_state w
 state_outside ranges w v f o =
     let both = and_parts (is_cell_outside reached_cell ranges) (are_others_outside ranges) o in
     state_but_reached ranges w v (data_cell w reached_cell)
-        (record { space = f.space; kept = λ a low out. f.kept a low (out_of a reached_cell 2 ranges out).rest })
+    (record { space = f.space; kept = λ a low out. f.kept a low (out_of a reached_cell 2 ranges out).rest })
     (cell_outside ranges w v reached_cell f both.0) both.1
 
 -- ---- the laws of what stays

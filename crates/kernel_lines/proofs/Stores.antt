@@ -55,5 +55,11 @@ pub does_by : (p : SourceProgram) (body : Nodes) (most highest : ℕ) (c c' : Li
     Does p body most highest c w c' w.input [] (states stores (kernel_state w)) (cells_at (addresses stores))
 does_by p body most highest c c' stores w h s run =
     let b = behind stores w h s in
-    record { after = stored stores w; run = run; input = b.console.input; printed = b.console.printed ∙ nothing_more w.printed;
-        state_is = b.state; others = b.others }
+    record {
+      after = stored stores w;
+      run = run;
+      input = b.console.input;
+      printed = b.console.printed ∙ nothing_more w.printed;
+      state_is = b.state;
+      others = b.others;
+    }

@@ -78,14 +78,14 @@ say_word_body = items (Literal word_buffer ∷ Plain Count ∷ Plain TypeOut ∷
 abbrev pub complain_body : Nodes
 complain_body = items (
     Literal error_cell ∷ Plain Fetch ∷ Literal 1 ∷ Plain Equal ∷ If
-        (items (Call say_word_place ∷ Text text.Print unknown_text 2 ∷ Plain Cr ∷ [])) Empty ∷
+    (items (Call say_word_place ∷ Text text.Print unknown_text 2 ∷ Plain Cr ∷ [])) Empty ∷
     Literal error_cell ∷ Plain Fetch ∷ Literal 4 ∷ Plain Equal ∷ If
-        (items (Call say_word_place ∷ Text text.Print stack_text 8 ∷ Plain Cr ∷ [])) Empty ∷
+    (items (Call say_word_place ∷ Text text.Print stack_text 8 ∷ Plain Cr ∷ [])) Empty ∷
     Literal error_cell ∷ Plain Fetch ∷ Literal 5 ∷ Plain Equal ∷ If (items (Text text.Print long_text 15 ∷ Plain Cr ∷ [])) Empty ∷
     Literal error_cell ∷ Plain Fetch ∷ Literal 6 ∷ Plain Equal ∷ If
-        (items (Call say_word_place ∷ Text text.Print full_text 7 ∷ Plain Cr ∷ [])) Empty ∷
+    (items (Call say_word_place ∷ Text text.Print full_text 7 ∷ Plain Cr ∷ [])) Empty ∷
     Literal error_cell ∷ Plain Fetch ∷ Literal 3 ∷ Plain Equal ∷ Plain ZeroEqual ∷ If
-        (items (Literal 0 ∷ Literal user_count_cell ∷ Plain Store ∷ [])) Empty ∷
+    (items (Literal 0 ∷ Literal user_count_cell ∷ Plain Store ∷ [])) Empty ∷
     Call reset_place ∷ [])
 
 -- : REPLY ( -- ) ERROR @ IF COMPLAIN ELSE ."  ok" CR THEN ;

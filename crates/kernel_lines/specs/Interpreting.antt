@@ -23,8 +23,13 @@ use Rattle.kernel_lines.specs.Laws.{checked, with_places_kept, NextIsRead}
 
 -- a definition in a frame, with this work
 abbrev pub interprets : List Work → List Entry → List Frame → List Work → List ℕ → World → State
-interprets work entries callers todo c w = record { work = todo; entries = [];
-    callers = record { work = work; entries = entries } ∷ callers; cells = c; world = w }
+interprets work entries callers todo c w = record {
+  work = todo;
+  entries = [];
+  callers = record { work = work; entries = entries } ∷ callers;
+  cells = c;
+  world = w;
+}
 
 -- the work of INTERPRET behind a word: CHECK and KEEP-PLACES, and on; and before a further word
 abbrev pub behind_word : List Work
@@ -44,7 +49,7 @@ ErrorsEndLines =
     data_cell w error_cell ≡ suc error →
     (work : List Work) (entries : List Entry) (callers : List Frame) →
     Comes p 7 9 (interprets work entries callers todo c w)
-        (record { work = work; entries = entries; callers = callers; cells = c; world = w })
+    (record { work = work; entries = entries; callers = callers; cells = c; world = w })
 
 -- without one it ends where no word is left
 abbrev pub LinesEnd : Type 0
@@ -65,7 +70,7 @@ word_met work entries callers try (suc code) c w = interprets behind_word [] (re
 abbrev pub WordsAreBegun : Type 0
 WordsAreBegun =
     (p : SourceProgram) (c : List ℕ) (w : World) (todo : List Work) (word : List ℕ) (words : List (List ℕ))
-        (next : NextIsRead p c w (word ∷ words)) (most highest code : ℕ) (found : World) →
+    (next : NextIsRead p c w (word ∷ words)) (most highest code : ℕ) (found : World) →
     HasLines p → IsKernel p → IsDataSpace w → IsBeforeWord todo → data_cell w error_cell ≡ 0 → has_byte word ≡ true →
     Returns p (body_of p interpret_word_place) most highest (word_buffer ∷ c) next.after (code ∷ c) found →
     (work : List Work) (entries : List Entry) (callers : List Frame) →
@@ -78,7 +83,7 @@ WordsAreEnded =
     (p : SourceProgram) (c : List ℕ) (done : World) → HasLines p →
     (check : Does p check_body 26 40 c done c done.input [] (checked (kernel_state done)) (cells_at (error_cell ∷ []))) →
     (keep : Does p keep_places_body 14 26 c check.after c check.after.input [] (with_places_kept (kernel_state check.after))
-        (cells_at (kept_here_cell ∷ kept_latest_cell ∷ []))) →
+    (cells_at (kept_here_cell ∷ kept_latest_cell ∷ []))) →
     (work : List Work) (entries : List Entry) (callers : List Frame) →
     Comes p 43 69 (interprets work entries callers behind_word c done) (interprets work entries callers further_word c keep.after)
 
@@ -86,12 +91,12 @@ WordsAreEnded =
 abbrev pub WordsAreDone : Type 0
 WordsAreDone =
     (p : SourceProgram) (c : List ℕ) (w : World) (todo : List Work) (word : List ℕ) (words : List (List ℕ))
-        (next : NextIsRead p c w (word ∷ words)) (most highest : ℕ) (done : World) →
+    (next : NextIsRead p c w (word ∷ words)) (most highest : ℕ) (done : World) →
     HasLines p → IsKernel p → IsDataSpace w → IsBeforeWord todo → data_cell w error_cell ≡ 0 → has_byte word ≡ true →
     Returns p (body_of p interpret_word_place) most highest (word_buffer ∷ c) next.after (0 ∷ c) done →
     (check : Does p check_body 26 40 c done c done.input [] (checked (kernel_state done)) (cells_at (error_cell ∷ []))) →
     (keep : Does p keep_places_body 14 26 c check.after c check.after.input [] (with_places_kept (kernel_state check.after))
-        (cells_at (kept_here_cell ∷ kept_latest_cell ∷ []))) →
+    (cells_at (kept_here_cell ∷ kept_latest_cell ∷ []))) →
     (work : List Work) (entries : List Entry) (callers : List Frame) →
     Comes p (454 + 400 * data_cell w length_cell + most) (416 + 250 * data_cell w length_cell + highest)
     (interprets work entries callers todo c w) (interprets work entries callers further_word c keep.after)

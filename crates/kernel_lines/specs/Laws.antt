@@ -97,7 +97,7 @@ abbrev pub RepliesAreGiven : Type 0
 RepliesAreGiven =
     (p : SourceProgram) (c : List ℕ) (w : World) → HasLines p → IsDataSpace w → HasTexts w →
     Does p reply_body 80 (1600 + 80 * data_byte w word_buffer) c w c w.input (reply_text (data_cell w error_cell) (word_read w))
-        (replied (kernel_state w))
+    (replied (kernel_state w))
     (cells_at (user_count_cell ∷ set_back_cells))
 
 -- ---- a line is read

@@ -38,7 +38,7 @@ abbrev pub LinesAreReplied : Type 0
 LinesAreReplied =
     (p : SourceProgram) (c : List ℕ) (done : World) → HasLines p →
     (reply : Does p reply_body 80 (1600 + 80 * data_byte done word_buffer) c done c done.input
-        (reply_text (data_cell done error_cell) (word_read done)) (replied (kernel_state done))
+    (reply_text (data_cell done error_cell) (word_read done)) (replied (kernel_state done))
     (cells_at (user_count_cell ∷ set_back_cells))) →
     (work : List Work) (entries : List Entry) (callers : List Frame) →
     Comes p 82 (1602 + 80 * data_byte done word_buffer) (interprets work entries callers behind_interpret c done)
@@ -117,7 +117,7 @@ MainRepeatsLines =
     (back : Does p reset_body 29 54 [] w [] w.input [] (set_back (kernel_state w)) (cells_at set_back_cells)) →
     (line : Line) (lines : List Line) → LinesFollow p back.after (line ∷ lines) →
     Comes p (30 + most_steps (line ∷ lines)) (55 + whole_price (line ∷ lines)) (main_begins w)
-        (main_goes_on (last_world back.after (line ∷ lines)))
+    (main_goes_on (last_world back.after (line ∷ lines)))
 
 -- and goes on so from each line
 abbrev pub MainGoesOn : Type 0
@@ -140,7 +140,7 @@ line_has_ended w = record { work = behind_line; entries = []; callers = []; cell
 abbrev pub FirstLineBegins : Type 0
 FirstLineBegins =
     (p : SourceProgram) (w : World) → HasLines p → (back : Does p reset_body 29 54 [] w [] w.input [] (set_back (kernel_state w))
-        (cells_at set_back_cells)) →
+    (cells_at set_back_cells)) →
     Comes p 31 56 (main_begins w) (line_begins back.after)
 
 abbrev pub LinesBegin : Type 0
