@@ -3,8 +3,8 @@
 # How long all of it takes from nothing, as measured (docs/PERFORMANCE.md).
 whole_build='some 25 minutes on four cores, and over an hour on one'
 
-# What one check may take of memory, in kilobytes: the largest took 3.3 million.
-check_memory=3500000
+# What one check may take of memory, in kilobytes: the largest took 3.8 million, alone, and most take a third of that.
+check_memory=3000000
 
 # How many checks are made at once: one for each processor, as far as memory goes.
 jobs_at_once() {
@@ -16,8 +16,12 @@ jobs_at_once() {
     echo "$jobs"
 }
 
-# Which crates are being proved, as `in code_layout and control_flow, 12 of 31 proved`.
+# Which crates are being proved, as `in code_layout and control_flow, 12 of 31 proved`, or that the program is compiled.
 progress() {
+    if grep -q '^== summary$' "$log"; then
+        echo "compiling what is proved"
+        return
+    fi
     proved=$(grep -c '^== [a-z0-9_]*$' "$log")
     crates=$(grep -c '^[a-z0-9_]*:' "$top/crates.txt")
     now=$(ps -s "$builder" -o args= 2>/dev/null |

@@ -166,13 +166,13 @@ try_unproved() {
     wait "$running"
     running=
     ended=$(sed -n '$s/^run=ended status=\([0-9]*\) .*proved=no$/\1/p' "$folder/said")
-    lines=$(own_lines)
-    [ -z "$lines" ] || printf '%s\n' "$lines" >&2
     if [ -n "$ended" ]; then
+        lines=$(own_lines)
+        [ -z "$lines" ] || printf '%s\n' "$lines" >&2
         [ ! -t 2 ] || explain "$ended" "$lines" "$command" "$named"
         exit "$ended"
     fi
     reason=$(sed -n 's/^checked: no-answer: //p' "$folder/said")
     [ -n "$reason" ] || cat "$folder/said" >&2
-    refuse "--try gives no answer${reason:+, since $reason}: it has none for a program that takes more than $try_seconds seconds or writes more than 1 MiB; leave --try out"
+    refuse "--try has no answer${reason:+, since $reason ($try_seconds seconds, 1 MiB)}: leave it out"
 }
