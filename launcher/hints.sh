@@ -11,7 +11,7 @@ hint_of_words() {
         --*) hint 'no other words may stand beside this one, and --package takes one file' 'COMMANDS.md#launcher' ;;
         make) hint 'SEED is at most 65535, and COUNT from 1 to 200' 'COMMANDS.md#make' ;;
         forth) hint 'only --steps and a number of digits alone, at most 1000000000, may follow' 'COMMANDS.md#forth' ;;
-        *) hint 'files come first, and their names do not begin with -; a number has digits alone, at most 1000000000, and 20000000 for eval' "COMMANDS.md#$1" ;;
+        *) hint 'files come first, and their names do not begin with -; a number has digits alone, at most 1000000000, 20000000 for eval and 1000000 for trace' "COMMANDS.md#$1" ;;
     esac
 }
 
@@ -171,6 +171,7 @@ explain() {
             case $command in
                 forth) hint 'the session has made all instructions that it may make, 1,000,000,000 where --steps gives no number' 'FORTH.md#limits' ;;
                 net) hint 'the turns of the net file did not bring each core to its end' 'NETWORKS.md#net-files' ;;
+                trace) hint 'the trace was cut off: --steps N gives it more, and without it there are 1,000' 'COMMANDS.md#status-6' ;;
                 *) hint 'the run was cut off: --steps N gives it more, and without it there are 10,000,000' 'COMMANDS.md#status-6' ;;
             esac
             ;;
