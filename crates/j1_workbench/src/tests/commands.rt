@@ -1,8 +1,6 @@
 // Words of commands, the instructions of runs, faults, and the exit statuses.
-use super::notation::field;
-use super::rows::{Fails, NEVER, row_in, run_calls, run_row};
+use super::rows::{run_calls, run_faults};
 use crate::{Status, status_number};
-use std::alloc::Global;
 use std::test::Fail;
 
 const WORDS: &str = r#"
@@ -39,6 +37,9 @@ certify source.fs --steps 5      | : MAIN ;                     |  |  | 1 bad wo
 certify NONE                     | : MAIN ;                     |  |  | 2 NONE: missing
 run _                            | : MAIN ;                     |  |  | 1 bad words
 run source.fs --steps 100        | : MAIN 0 0 DO LOOP 65 EMIT ; |  |  | 6 steps used
+run n                            | : MAIN ;                     |  |  | 2 n: missing
+run nnnnnnnnnnnnnnnnnnnnnnnnnnnnnnnnnnnnnnnnnnnnnnnnnnnnnnnnnnnnnnnnnnnnnnnnnnnnnnnnnnnnnnnnnnnnnnnnnnnnnnnnnnnnnnnnnnnnnnnnnnnnnnnnnnnnnnnnnnnnnnnnnnnnnnnnnnnnnnnnnnnnnnnnnnnnnnnnnnnnnnnnnnnnnnnnnnnnnnnnnnnnnnnnnnnnnnnnnnnnnnnnnnnnnnnnnnnnnnnnnnnnnnnnnnnnnnn | : MAIN ; |  |  | 2 nnnnnnnnnnnnnnnnnnnnnnnnnnnnnnnnnnnnnnnnnnnnnnnnnnnnnnnnnnnnnnnnnnnnnnnnnnnnnnnnnnnnnnnnnnnnnnnnnnnnnnnnnnnnnnnnnnnnnnnnnnnnnnnnnnnnnnnnnnnnnnnnnnnnnnnnnnnnnnnnnnnnnnnnnnnnnnnnnnnnnnnnnnnnnnnnnnnnnnnnnnnnnnnnnnnnnnnnnnnnnnnnnnnnnnnnnnnnnnnnnnnnnnnnnnnnnnn: missing
+run nnnnnnnnnnnnnnnnnnnnnnnnnnnnnnnnnnnnnnnnnnnnnnnnnnnnnnnnnnnnnnnnnnnnnnnnnnnnnnnnnnnnnnnnnnnnnnnnnnnnnnnnnnnnnnnnnnnnnnnnnnnnnnnnnnnnnnnnnnnnnnnnnnnnnnnnnnnnnnnnnnnnnnnnnnnnnnnnnnnnnnnnnnnnnnnnnnnnnnnnnnnnnnnnnnnnnnnnnnnnnnnnnnnnnnnnnnnnnnnnnnnnnnnnnnnnnnnn | : MAIN ; |  |  | 1 bad words
 "#;
 
 #[test]
@@ -60,10 +61,11 @@ fn counts_steps(rt: HostRuntime) -> Result<(), Fail> {
     run_calls(rt.alloc(), STEPS)
 }
 
-// What fails outside, and the number of its call; then a row. A console that has ended is asked once: a second question would be a fault.
+// A console that has ended is asked once: a second question would be a fault.
 const FAULTS: &str = r#"
 files 1     | run source.fs     | : MAIN 72 EMIT ;                             | x  |    | 10 read fault
 writes 1    | run source.fs     | : MAIN 72 EMIT ;                             | x  |    | 11 write fault
+writes 1    | run source.fs     | : MAIN ;                                     | x
 questions 1 | run source.fs     | : MAIN 72 EMIT KEY EMIT ;                    | x  | H  | 10 read fault
 notes 2     | run source.fs     | X                                            | x  |    | 11 =j1:_
 notes 4     | run source.fs     | : MAIN X ;                                   | x  |    | 11 =j1:_source_token_3
@@ -81,42 +83,9 @@ questions 3 | run source.fs     | : MAIN KEY EMIT KEY EMIT KEY EMIT KEY EMIT ; |
 questions 4 | run source.fs     | : MAIN KEY EMIT KEY EMIT KEY EMIT KEY EMIT ; | xy | xy | 7 input ended
 "#;
 
-// The calls that fail: those of an object that have these numbers.
-fn fails_of<'a>(object: &str, numbers: &'a [u32]) -> Fails<'a> {
-    match object {
-        "files" => Fails {
-            files: numbers,
-            ..NEVER
-        },
-        "questions" => Fails {
-            questions: numbers,
-            ..NEVER
-        },
-        "writes" => Fails {
-            writes: numbers,
-            ..NEVER
-        },
-        _ => Fails {
-            notes: numbers,
-            ..NEVER
-        },
-    }
-}
-
-fn run_fault(alloc: Global, line: &str) -> Result<(), Fail> {
-    let mut rest = line;
-    let (object, number) = field(&mut rest).split_once(' ').ok_or(line)?;
-    let numbers = [number.parse::<u32>().ok().ok_or(line)?];
-    let words = field(&mut rest);
-    run_row(alloc, &row_in(words, rest), fails_of(object, &numbers))
-}
-
 #[test]
 fn tells_faults(rt: HostRuntime) -> Result<(), Fail> {
-    for line in FAULTS.trim_matches('\n').lines() {
-        run_fault(rt.alloc(), line)?;
-    }
-    Ok(())
+    run_faults(rt.alloc(), FAULTS)
 }
 
 // No row runs out of memory. Each other status has its number in a row.

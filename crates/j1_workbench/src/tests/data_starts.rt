@@ -1,6 +1,5 @@
 // Sources that state where their data space begins: what they print, their image files, and their certificates and bounds.
-use super::rows::{NEVER, Outside, call, run_calls, run_rows};
-use std::alloc::Global;
+use super::rows::{run_calls, run_rows};
 use std::test::Fail;
 
 // A source, its input, what it prints, and its answer.
@@ -63,51 +62,15 @@ fn certificates_know_no_data_start(rt: HostRuntime) -> Result<(), Fail> {
     run_calls(rt.alloc(), CERTIFIED)
 }
 
-// A source built into the file `a`.
-fn built(alloc: Global, text: &str) -> Result<Outside, Fail> {
-    let mut met = Outside::new(alloc, b"", NEVER)?;
-    met.files.put("source.fs", text.as_bytes())?;
-    call(alloc, &mut met, "build source.fs a")?;
-    Ok(met)
-}
+// Two sources have one image file, and it begins with these bytes: 8192 is the start of version 1, stated or not.
+const IMAGES: &str = r#"
+build source.fs a ; build other b | 3000 CODE-CELLS : MAIN HERE . ; | | | | other = $BB8_CODE-CELLS_:_MAIN_HERE_._; | a == b & a >= J1IM^02^00p^17
+build source.fs a ; build other b | 4096 CODE-CELLS : MAIN 72 EMIT ; | | | | other = :_MAIN_72_EMIT_; | a == b & a >= J1IM^01^00
+build source.fs a ; build other b | 4096 CODE-CELLS : ADD + ; : MAIN 1 2 ADD DROP ; | | | | other = :_ADD_+_;_:_MAIN_1_2_ADD_DROP_; | a == b & a >= J1IM^01^00
+build source.fs a ; build other b | 4096 CODE-CELLS : CON CREATE , DOES> @ ; 7 CON N : MAIN N . ; | | | | other = :_CON_CREATE_,_DOES>_@_;_7_CON_N_:_MAIN_N_._; | a == b & a >= J1IM^01^00
+"#;
 
-// Whether two sources have one image file, which begins with these bytes.
-fn are_one_image(alloc: Global, text: &str, other: &str, front: &[u8]) -> Result<bool, Fail> {
-    let first = built(alloc, text)?;
-    let second = built(alloc, other)?;
-    match (first.files.file("a"), second.files.file("a")) {
-        (Some(a), Some(b)) => Ok(*a == *b && a.starts_with(front)),
-        _ => Ok(false),
-    }
-}
-
-// 8192 is the start of version 1, stated or not.
 #[test]
 fn image_files_have_the_start(rt: HostRuntime) -> Result<(), Fail> {
-    let alloc = rt.alloc();
-    for (text, other, front) in [
-        (
-            "3000 CODE-CELLS : MAIN HERE . ;",
-            "$BB8 CODE-CELLS : MAIN HERE . ;",
-            &b"J1IM\x02\x00\x70\x17"[..],
-        ),
-        (
-            "4096 CODE-CELLS : MAIN 72 EMIT ;",
-            ": MAIN 72 EMIT ;",
-            &b"J1IM\x01\x00"[..],
-        ),
-        (
-            "4096 CODE-CELLS : ADD + ; : MAIN 1 2 ADD DROP ;",
-            ": ADD + ; : MAIN 1 2 ADD DROP ;",
-            &b"J1IM\x01\x00"[..],
-        ),
-        (
-            "4096 CODE-CELLS : CON CREATE , DOES> @ ; 7 CON N : MAIN N . ;",
-            ": CON CREATE , DOES> @ ; 7 CON N : MAIN N . ;",
-            &b"J1IM\x01\x00"[..],
-        ),
-    ] {
-        assert!(rt; are_one_image(alloc, text, other, front)?, "{text}");
-    }
-    Ok(())
+    run_calls(rt.alloc(), IMAGES)
 }

@@ -1,6 +1,5 @@
 // Sources that are evaluated, beside the same sources run on the chip.
-use super::notation::{bytes_in, field};
-use super::rows::{NEVER, Outside, call, run_calls};
+use super::rows::{left_by, row_in, run_calls};
 use std::alloc::Global;
 use std::test::Fail;
 
@@ -60,27 +59,21 @@ eval source.fs             | : MAIN X ;                            |   |    | 3 
 eval NONE                  | : MAIN ;                              |   |    | 2 NONE: missing
 "#;
 
-// Whether `eval` leaves what `run` leaves.
-fn runs_alike(alloc: Global, line: &str) -> Result<bool, Fail> {
-    let mut rest = line;
-    let text = field(&mut rest);
-    let input = bytes_in(alloc, field(&mut rest))?;
-    let mut run = Outside::new(alloc, input.as_slice(), NEVER)?;
-    run.files.put("source.fs", text.as_bytes())?;
-    let mut evaluated = Outside::new(alloc, input.as_slice(), NEVER)?;
-    evaluated.files.put("source.fs", text.as_bytes())?;
-    let status = call(alloc, &mut run, "run source.fs")?;
-    Ok(
-        call(alloc, &mut evaluated, "eval source.fs")? == status
-            && *evaluated.out.held() == *run.out.held()
-            && *evaluated.notes.held() == *run.notes.held(),
-    )
+// `eval` leaves what `run` leaves.
+fn run_alike(alloc: Global, line: &str) -> Result<(), Fail> {
+    let ran = left_by(alloc, &row_in("run source.fs", line))?;
+    let evaluated = left_by(alloc, &row_in("eval source.fs", line))?;
+    if *evaluated.as_str() == *ran.as_str() {
+        Ok(())
+    } else {
+        Ok(Err(line)?)
+    }
 }
 
 #[test]
 fn evaluates_as_it_runs(rt: HostRuntime) -> Result<(), Fail> {
     for line in SOURCES.trim_matches('\n').lines() {
-        assert!(rt; runs_alike(rt.alloc(), line)?, "{line}");
+        run_alike(rt.alloc(), line)?;
     }
     Ok(())
 }

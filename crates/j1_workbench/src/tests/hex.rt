@@ -1,7 +1,5 @@
 // `hex`: the memory that an image begins with, as lines of hexadecimal digits.
-use super::rows::{Fails, NEVER, Outside, call, run_calls};
-use crate::Status;
-use std::alloc::{AllocError, Global};
+use super::rows::{run_calls, run_faults, run_pieces};
 use std::test::Fail;
 
 // Words that have no form, and files that `list` refuses too. Nothing is written.
@@ -24,101 +22,28 @@ fn refuses_what_is_no_image(rt: HostRuntime) -> Result<(), Fail> {
     run_calls(rt.alloc(), REFUSED)
 }
 
-// 8192 lines, of which all but these are of zeros.
-fn text_with(alloc: Global, lines: &[(u16, &str)]) -> Result<Vec<u8>, AllocError> {
-    let mut text = Vec::new(alloc);
-    for place in 0..8192u16 {
-        let mut digits = "0000";
-        for (at, line) in lines {
-            if *at == place {
-                digits = *line;
-            }
-        }
-        text.extend_from_slice(digits.as_bytes())?;
-        text.push(b'\n')?;
-    }
-    Ok(text)
-}
+// 8192 lines: of both versions, where a byte alone is the low one of its cell, the last cell has its line, and data space begins at half its
+// address; and of data bytes that reach the last cell of memory, with 1 at the byte before its end, which is its high byte.
+const LINES: &str = r#"
+hex a b |                   | J1IM^01^00^04^00^01^00H^80^00^C0#`^03a~ 1 | 8048~C000~6023~6103~ 1, 0000~ 4092, 000A~ 1, 0000~ 4095
+hex a b |                   | J1IM^02^00p^17^01^00^03^00^0Cp^12^EF^09 1 | 700C~ 1, 0000~ 2999, EF12~0009~ 1, 0000~ 5190
+hex a b |                   | J1IM^01^00^00^00^00_ 1, ^00 8191, ^01 1   | 0000~ 8191, 0100~ 1
+hex a b | 5 image byte 8202 | J1IM^01^00^00^00^00_ 1, ^00 8191, ^01^00 1
+hex a b | 13 a: too large   | _ 32769
+"#;
 
-// Of both versions: a byte alone is the low one of its cell, the last cell has its line, and data space begins at half its address.
 #[test]
 fn writes_each_cell(rt: HostRuntime) -> Result<(), Fail> {
-    let alloc = rt.alloc();
-    let hello = b"J1IM\x01\x00\x04\x00\x01\x00\x48\x80\x00\xC0\x23\x60\x03\x61\x0A";
-    let split = b"J1IM\x02\x00\x70\x17\x01\x00\x03\x00\x0C\x70\x12\xEF\x09";
-    for (image, lines) in [
-        (
-            hello.as_slice(),
-            [
-                (0u16, "8048"),
-                (1, "C000"),
-                (2, "6023"),
-                (3, "6103"),
-                (4096, "000A"),
-            ]
-            .as_slice(),
-        ),
-        (
-            split.as_slice(),
-            [(0, "700C"), (3000, "EF12"), (3001, "0009")].as_slice(),
-        ),
-    ] {
-        let mut met = Outside::new(alloc, b"", NEVER)?;
-        met.files.put("a", image)?;
-        assert_eq!(rt; call(alloc, &mut met, "hex a b")?, Status::Done);
-        let wanted = text_with(alloc, lines)?;
-        match met.files.file("b") {
-            Some(text) => assert!(rt; *text == *wanted.as_slice()),
-            None => assert!(rt; false, "no file"),
-        }
-        assert_eq!(rt; met.out.held(), b"".as_slice());
-    }
-    Ok(())
+    run_pieces(rt.alloc(), LINES)
 }
 
-// An image whose data bytes reach the last cell of memory: 1 at the byte before its end, which is its high byte.
-#[test]
-fn reaches_the_last_cell(rt: HostRuntime) -> Result<(), Fail> {
-    let alloc = rt.alloc();
-    let mut image = vec![in alloc; 0u8; 10 + 8191]?;
-    image.push(1)?;
-    for (place, byte) in [74u8, 49, 73, 77, 1, 0, 0, 0, 0, 32].iter().enumerate() {
-        if let Some(at) = image.as_mut_slice().get_mut(place) {
-            *at = *byte;
-        }
-    }
-    let mut met = Outside::new(alloc, b"", NEVER)?;
-    met.files.put("a", image.as_slice())?;
-    assert_eq!(rt; call(alloc, &mut met, "hex a b")?, Status::Done);
-    let wanted = text_with(alloc, &[(8191, "0100")])?;
-    match met.files.file("b") {
-        Some(text) => assert!(rt; *text == *wanted.as_slice()),
-        None => assert!(rt; false, "no file"),
-    }
-    image.push(0)?;
-    met.files.put("a", image.as_slice())?;
-    assert_eq!(rt; call(alloc, &mut met, "hex a c")?, Status::BadImage(8202));
-    Ok(())
-}
+// A file that can't be read or written.
+const FAULTS: &str = r#"
+files 1 | hex a b | | |  | 10 read fault  | a = J1IM^01^00^00^00^00^00 | b
+files 2 | hex a b | | |  | 11 write fault | a = J1IM^01^00^00^00^00^00 | b
+"#;
 
-// A file that can't be written, and one that is too large to be read.
 #[test]
-fn tells_faults_of_files(rt: HostRuntime) -> Result<(), Fail> {
-    let alloc = rt.alloc();
-    for (fails, status) in [(1u32, Status::ReadFault), (2, Status::WriteFault)] {
-        let numbers = [fails];
-        let failing = Fails {
-            files: &numbers,
-            ..NEVER
-        };
-        let mut met = Outside::new(alloc, b"", failing)?;
-        met.files.put("a", b"J1IM\x01\x00\x00\x00\x00\x00")?;
-        assert_eq!(rt; call(alloc, &mut met, "hex a b")?, status);
-    }
-    let mut met = Outside::new(alloc, b"", NEVER)?;
-    let large = vec![in alloc; b' '; 32_769]?;
-    met.files.put("a", large.as_slice())?;
-    assert_eq!(rt; call(alloc, &mut met, "hex a b")?, Status::TooLarge);
-    assert_eq!(rt; met.notes.held(), b"j1: a: too large\n".as_slice());
-    Ok(())
+fn tells_faults(rt: HostRuntime) -> Result<(), Fail> {
+    run_faults(rt.alloc(), FAULTS)
 }

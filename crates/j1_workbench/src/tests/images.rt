@@ -1,10 +1,5 @@
 // Image files, listings and made sources: what commands leave in out, in the notes and in the folder.
-use super::rows::{NEVER, Outside, call, run_calls};
-use crate::Status;
-use image_file::{ImageError, read_image, write_image};
-use j1_assembler::{AsmCause, AsmError, assemble};
-use j1_simulator::Machine;
-use j1_table::Image;
+use super::rows::{run_calls, run_pieces};
 use std::test::Fail;
 
 const CALLS: &str = r#"
@@ -46,78 +41,17 @@ fn works_on_images(rt: HostRuntime) -> Result<(), Fail> {
     run_calls(rt.alloc(), CALLS)
 }
 
-// Each file may have so many bytes, and is too large with one more.
+// Each file may have so many bytes, and is too large with one more. Fields are those of `run_pieces`.
+const LARGE: &str = r#"
+exec a  | 5 image byte 0   | _ 32768
+exec a  | 13 a: too large  | _ 32769
+list a  | 5 image byte 0   | _ 32768
+list a  | 13 a: too large  | _ 32769
+asm a b | 5 listing line 1 | _ 524288
+asm a b | 13 a: too large  | _ 524289
+"#;
+
 #[test]
 fn tells_large_files(rt: HostRuntime) -> Result<(), Fail> {
-    let alloc = rt.alloc();
-    for (words, most, note) in [
-        ("exec a", 32_768usize, "j1: image byte 0\n"),
-        ("list a", 32_768, "j1: image byte 0\n"),
-        ("asm a b", 524_288, "j1: listing line 1\n"),
-    ] {
-        let mut bytes = vec![in alloc; b' '; most]?;
-        let mut met = Outside::new(alloc, b"", NEVER)?;
-        met.files.put("a", bytes.as_slice())?;
-        call(alloc, &mut met, words)?;
-        assert_eq!(rt; met.notes.held(), note.as_bytes(), "{words}");
-        bytes.push(b' ')?;
-        met.files.put("a", bytes.as_slice())?;
-        assert_eq!(rt; call(alloc, &mut met, words)?, Status::TooLarge, "{words}");
-        assert!(rt; met.files.file("b").is_none(), "{words}");
-    }
-    Ok(())
-}
-
-// The calls of the layers, where memory is ample.
-#[test]
-fn reads_and_writes_images(rt: HostRuntime) -> Result<(), Fail> {
-    let alloc = rt.alloc();
-    let image = Image::split(alloc, &[0x700C], &[7, 8], 6000)?;
-    let file = write_image(alloc, &image)?;
-    match read_image(alloc, file.as_slice()) {
-        Ok(again) => {
-            assert_eq!(rt; again.cells(), image.cells());
-            assert_eq!(rt; again.bytes(), image.bytes());
-            assert_eq!(rt; again.data_start(), 6000);
-        }
-        Err(error) => assert!(rt; false, "{error:?}"),
-    }
-    match read_image(alloc, b"J1I") {
-        Ok(_) => assert!(rt; false, "an image of three bytes"),
-        Err(error) => assert_eq!(rt; error, ImageError::Refused(3)),
-    }
-    for (text, line, cause) in [
-        (b"J1 1\nCODE\nDATA\n".as_slice(), 4u32, AsmCause::NoEnd),
-        (b"J1 2 2000\nCODE".as_slice(), 1, AsmCause::Header),
-        (b"J1 1\ndup".as_slice(), 2, AsmCause::Section),
-        (b"J1 1\nCODE\nalu T T->R T->N".as_slice(), 3, AsmCause::Form),
-        (b"J1 1\nCODE\n\\ \x80".as_slice(), 3, AsmCause::Form),
-        (
-            b"J1 1\nCODE\nX: dup\nX: drop\nDATA\nEND".as_slice(),
-            4,
-            AsmCause::Label,
-        ),
-        (
-            b"J1 1\nCODE\nDATA\n@2001 00".as_slice(),
-            4,
-            AsmCause::Address,
-        ),
-        (
-            b"J1 1\nCODE\nDATA\nEND\nEND".as_slice(),
-            5,
-            AsmCause::AfterEnd,
-        ),
-    ] {
-        match assemble(alloc, text) {
-            Ok(_) => assert!(rt; false, "{line}"),
-            Err(error) => assert_eq!(rt; error, AsmError::Refused(line, cause)),
-        }
-    }
-    // Three returns on an empty return stack.
-    let mut machine = Machine::new(alloc, &image)?;
-    for _ in 0..3u8 {
-        let _ = machine.step();
-    }
-    assert_eq!(rt; machine.depths(), (0, -3));
-    Ok(())
+    run_pieces(rt.alloc(), LARGE)
 }

@@ -1,5 +1,5 @@
 // `kernel`: the image of the interactive Forth as a file.
-use super::rows::{Fails, NEVER, Outside, call, run_calls};
+use super::rows::{NEVER, Outside, call, holds, run_calls, run_faults};
 use crate::Status;
 use image_file::write_image;
 use std::test::Fail;
@@ -29,26 +29,17 @@ fn writes_a_forth(rt: HostRuntime) -> Result<(), Fail> {
 #[test]
 fn is_the_image_of_forth(rt: HostRuntime) -> Result<(), Fail> {
     let alloc = rt.alloc();
+    let wanted = write_image(alloc, &kernel_image(alloc)?)?;
     let mut met = Outside::new(alloc, b"", NEVER)?;
-    assert_eq!(rt; call(alloc, &mut met, "kernel k")?, Status::Done);
-    let image = kernel_image(alloc)?;
-    let wanted = write_image(alloc, &image)?;
-    match met.files.file("k") {
-        Some(file) => assert!(rt; *file == *wanted.as_slice()),
-        None => assert!(rt; false, "no file"),
-    }
+    let is_done = call(alloc, &mut met, "kernel k")? == Status::Done;
+    assert!(rt; is_done && holds(&met.files, "k", wanted.as_slice()));
     Ok(())
 }
 
 #[test]
 fn tells_a_file_that_fails(rt: HostRuntime) -> Result<(), Fail> {
-    let alloc = rt.alloc();
-    let failing = Fails {
-        files: &[1],
-        ..NEVER
-    };
-    let mut met = Outside::new(alloc, b"", failing)?;
-    assert_eq!(rt; call(alloc, &mut met, "kernel k")?, Status::WriteFault);
-    assert_eq!(rt; met.notes.held(), b"j1: write fault\n".as_slice());
-    Ok(())
+    run_faults(
+        rt.alloc(),
+        "files 1 | kernel k | | | | 11 write fault | | k",
+    )
 }

@@ -1,8 +1,8 @@
 // Sources at the limits of the stacks, of code, of the output and of a text.
-use super::notation::field;
 use super::rows::{NEVER, Row, run_row};
-use std::alloc::{AllocError, Global};
+use std::alloc::Global;
 use std::test::Fail;
+use test_notation::{field, repeated};
 
 // Pieces of a source, each with how often it stands; such pieces of what it prints; and its answer.
 const LIMITS: &str = r#"
@@ -41,29 +41,6 @@ _ 65536                                             |        | 3 source token 1:
 _ 65537                                             |        | 13 source.fs: too large
 A 65536                                             |        | 3 source token 1: NameTooLong
 "#;
-
-/// Appends a text so many times.
-pub(super) fn append_times(text: &mut String, piece: &str, count: u32) -> Result<(), AllocError> {
-    for _ in 0..count {
-        text.push_str(piece)?;
-    }
-    Ok(())
-}
-
-/// The text of pieces, each with how often it stands.
-pub(super) fn repeated(alloc: Global, pieces: &str) -> Result<String, Fail> {
-    let mut text = String::new(alloc);
-    for piece in pieces.split(',') {
-        if let Some((piece, count)) = piece.trim_ascii().rsplit_once(' ') {
-            append_times(
-                &mut text,
-                piece,
-                count.parse::<u32>().ok().ok_or("no count")?,
-            )?;
-        }
-    }
-    Ok(text)
-}
 
 /// Runs a line of pieces.
 pub(super) fn run_limit(alloc: Global, line: &str) -> Result<(), Fail> {

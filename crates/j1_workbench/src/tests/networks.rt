@@ -1,8 +1,8 @@
 // Net files, their cores and statuses.
-use super::notation::field;
 use super::rows::{NEVER, Row, run_calls, run_row};
 use std::alloc::Global;
 use std::test::Fail;
+use test_notation::{field, repeated};
 
 // The sources of cores. P sends 0 to 999 by link 0 and Q adds up what comes by it; S sends 64 cells, T 65; A waits for link 1 and B
 // for link 0; H prints A, K takes an input byte, and Z halts with 5.
@@ -95,31 +95,26 @@ fn runs_most_turns(rt: HostRuntime) -> Result<(), Fail> {
     run_net_file(rt.alloc(), net, "core_0:_A~core_1:_A~", "")
 }
 
-// Appends a text so many times.
-fn times(alloc: Global, piece: &str, count: u8) -> Result<String, Fail> {
-    let mut text = String::new(alloc);
-    for _ in 0..count {
-        text.push_str(piece)?;
-    }
-    Ok(text)
+// Pieces of a net file, each with how often it stands, what is written to out, and the answer. 16 cores and 16 links are run, and one more of
+// either is a bad line.
+const MOST: &str = r#"
+NET_1~ 1, core_H~ 16, link_0_15~ 16, turns_100_10 1 | core_0:_A~core_1:_A~core_2:_A~core_3:_A~core_4:_A~core_5:_A~core_6:_A~core_7:_A~core_8:_A~core_9:_A~core_10:_A~core_11:_A~core_12:_A~core_13:_A~core_14:_A~core_15:_A~ |
+NET_1~ 1, core_H~ 16, link_0_15~ 16, link_0_1~turns_1_1 1 |  | 17 net line 34
+NET_1~ 1, core_H~ 16, core_H~turns_1_1 1 |  | 17 net line 18
+"#;
+
+fn run_most(alloc: Global, line: &str) -> Result<(), Fail> {
+    let mut rest = line;
+    let net = repeated(alloc, field(&mut rest))?;
+    let out = field(&mut rest);
+    run_net_file(alloc, net.as_str(), out, field(&mut rest))
 }
 
-// 16 cores and 16 links are run, and one more of either is a bad line.
 #[test]
 fn runs_most_cores(rt: HostRuntime) -> Result<(), Fail> {
-    let alloc = rt.alloc();
-    let mut out = String::new(alloc);
-    for core in 0..16u8 {
-        out.push_str(format!(in alloc; "core_{core}:_A~")?.as_str())?;
+    for line in MOST.trim_matches('\n').lines() {
+        run_most(rt.alloc(), line)?;
     }
-    let cores = times(alloc, "core_H~", 16)?;
-    let links = times(alloc, "link_0_15~", 16)?;
-    let most = format!(in alloc; "NET_1~{cores}{links}turns_100_10")?;
-    run_net_file(alloc, most.as_str(), out.as_str(), "")?;
-    let linked = format!(in alloc; "NET_1~{cores}{links}link_0_1~turns_1_1")?;
-    run_net_file(alloc, linked.as_str(), "", "17 net line 34")?;
-    let many = format!(in alloc; "NET_1~{cores}core_H~turns_1_1")?;
-    run_net_file(alloc, many.as_str(), "", "17 net line 18")?;
     Ok(())
 }
 

@@ -1,5 +1,6 @@
 // Sources of several definitions with structures, run and certified.
-use super::rows::{NEVER, Outside, call, is_answer, run_rows};
+use super::rows::{NEVER, Outside, call, run_rows};
+use crate::Status;
 use std::test::Fail;
 
 // A source, its input, what it prints, and its answer.
@@ -55,9 +56,9 @@ fn loops_by_last_calls(rt: HostRuntime) -> Result<(), Fail> {
     let mut met = Outside::new(alloc, b"", NEVER)?;
     met.files
         .put("source.fs", b": LOOPY 65 EMIT RECURSE ; : MAIN LOOPY ;")?;
-    let status = call(alloc, &mut met, "run source.fs --steps 1000")?;
-    let is_used = is_answer(alloc, status, met.notes.held(), "6 steps used")?;
-    assert!(rt; is_used && prints_on(met.out.held()));
+    let is_used = call(alloc, &mut met, "run source.fs --steps 1000")? == Status::StepsUsed;
+    let is_told = met.notes.held() == b"j1: steps used\n".as_slice();
+    assert!(rt; is_used && is_told && prints_on(met.out.held()));
     Ok(())
 }
 

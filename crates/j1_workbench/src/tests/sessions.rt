@@ -1,11 +1,9 @@
-// Sessions with the interactive Forth. A line of a table is a line that is typed, a bar, and the reply to it; both are written as `notation`
+// Sessions with the interactive Forth. A line of a table is a line that is typed, a bar, and the reply to it; both are written as `test_notation`
 // says. The replies are those of ANS Forth, and of `docs/FORTH.md` where the standard leaves them to the system, by hand.
-use super::notation::{bytes_in, field};
-use super::rows::{Outside, call, run_calls};
-use crate::Status;
-use outside_io::{MemFolder, MemSink, MemSource};
-use std::alloc::Global;
+use super::rows::{NEVER, Row, run_calls, run_row};
+use std::alloc::{AllocError, Global};
 use std::test::Fail;
+use test_notation::field;
 
 // Each Core word at least once.
 const WORDS: &str = r#"
@@ -190,36 +188,31 @@ forth --steps 1  | |                       |            | 6 steps used
 forth --steps 900 | | 1_.~                 |            | 6 steps used
 "#;
 
-// What is typed and what is replied, line by line.
-fn transcript(alloc: Global, table: &str) -> Result<(Vec<u8>, Vec<u8>), Fail> {
-    let mut typed = Vec::new(alloc);
-    let mut replies = Vec::new(alloc);
-    for line in table.trim_matches('\n').lines() {
-        let mut rest = line;
-        typed.extend_from_slice(bytes_in(alloc, field(&mut rest))?.as_slice())?;
-        typed.push(b'\n')?;
-        replies.extend_from_slice(bytes_in(alloc, rest.trim_ascii())?.as_slice())?;
-        replies.push(b'\n')?;
-    }
-    Ok((typed, replies))
+// Appends a line, in the notation of bytes.
+fn append_line(text: &mut String, line: &str) -> Result<(), AllocError> {
+    text.push_str(line)?;
+    text.push('~')
 }
 
 // Types all lines of a table in one session, and looks at all replies.
 fn replies_as(alloc: Global, table: &str) -> Result<(), Fail> {
-    let (typed, replies) = transcript(alloc, table)?;
-    let mut outside = Outside {
-        files: MemFolder::new(alloc, &[])?,
-        console: MemSource::new(alloc, typed.as_slice(), &[])?,
-        out: MemSink::new(alloc, 10_000, &[])?,
-        notes: MemSink::new(alloc, 1000, &[])?,
-    };
-    let status = call(alloc, &mut outside, "forth")?;
-    let held = outside.out.held();
-    if status == Status::Done && *held == *replies.as_slice() {
-        return Ok(());
+    let mut typed = String::new(alloc);
+    let mut replies = String::new(alloc);
+    for line in table.trim_matches('\n').lines() {
+        let mut rest = line;
+        append_line(&mut typed, field(&mut rest))?;
+        append_line(&mut replies, rest.trim_ascii())?;
     }
-    Err(format!(in alloc; "{status:?}, {held:?}")?)?;
-    Ok(())
+    let row = Row {
+        words: "forth",
+        source: "",
+        console: typed.as_str(),
+        out: replies.as_str(),
+        answer: "",
+        files: "",
+        after: "",
+    };
+    run_row(alloc, &row, NEVER)
 }
 
 #[test]

@@ -1,8 +1,7 @@
 // `trace`: a line for each instruction, and for each byte that is printed or taken.
-use super::notation::field;
-use super::rows::{Fails, NEVER, Outside, call, row_in, run_calls, run_row};
+use super::rows::{NEVER, Outside, call, run_calls, run_faults};
 use crate::Status;
-use outside_io::MemSink;
+use std::alloc::Global;
 use std::test::Fail;
 
 // Words that have no form, and files that `exec` refuses too.
@@ -41,7 +40,7 @@ fn traces_instructions(rt: HostRuntime) -> Result<(), Fail> {
     run_calls(rt.alloc(), LINES)
 }
 
-// What fails outside, and the number of its call; then a row. The line of an instruction is written before its byte is asked for.
+// The line of an instruction is written before its byte is asked for.
 const FAULTS: &str = r#"
 files 1     | trace a --steps 3 | | x |  | 10 read fault | a = J1IM^01^00^02^00^00^00^02^C0^00l
 questions 1 | trace a --steps 3 | | x | 1_@0000_C002_T=0000_N=0000_R=0000_DSP=00_RSP=00_lit_4002~2_@0001_6C00_T=4002_N=0000_R=0000_DSP=01_RSP=00_fetch_4002_alu_[T]_\_@~ | 10 read fault | a = J1IM^01^00^02^00^00^00^02^C0^00l
@@ -50,47 +49,24 @@ writes 3    | trace a --steps 3 | | x | 1_@0000_C002_T=0000_N=0000_R=0000_DSP=00
 writes 3    | trace a --steps 2 | |   | 1_@0000_C002_T=0000_N=0000_R=0000_DSP=00_RSP=00_lit_4002~2_@0001_6C00_T=4002_N=0000_R=0000_DSP=01_RSP=00_fetch_4002_alu_[T]_\_@~ | 7 input ended | a = J1IM^01^00^02^00^00^00^02^C0^00l
 "#;
 
-// The calls that fail: those of an object that have these numbers.
-fn fails_of<'a>(object: &str, numbers: &'a [u32]) -> Fails<'a> {
-    match object {
-        "files" => Fails {
-            files: numbers,
-            ..NEVER
-        },
-        "questions" => Fails {
-            questions: numbers,
-            ..NEVER
-        },
-        _ => Fails {
-            writes: numbers,
-            ..NEVER
-        },
-    }
-}
-
 #[test]
 fn tells_faults(rt: HostRuntime) -> Result<(), Fail> {
-    for line in FAULTS.trim_matches('\n').lines() {
-        let mut rest = line;
-        let (object, number) = field(&mut rest).split_once(' ').ok_or(line)?;
-        let numbers = [number.parse::<u32>().ok().ok_or(line)?];
-        let words = field(&mut rest);
-        run_row(rt.alloc(), &row_in(words, rest), fails_of(object, &numbers))?;
-    }
-    Ok(())
+    run_faults(rt.alloc(), FAULTS)
 }
 
-// An image without code jumps to cell 0 without an end: 1,000 lines where no number is given.
+// The number of lines that are written where the steps are used, of an image without code, which jumps to cell 0 without an end.
+fn counts_lines(alloc: Global, words: &str) -> Result<usize, Fail> {
+    let mut met = Outside::new(alloc, b"", NEVER)?;
+    met.files.put("a", b"J1IM\x01\x00\x00\x00\x00\x00")?;
+    let is_used = call(alloc, &mut met, words)? == Status::StepsUsed;
+    let lines = met.out.held().iter().filter(|byte| **byte == b'\n').count();
+    Ok(if is_used { lines } else { 0 })
+}
+
+// 1,000 lines where no number is given.
 #[test]
 fn makes_so_many_lines(rt: HostRuntime) -> Result<(), Fail> {
-    let alloc = rt.alloc();
-    for (words, most) in [("trace a", 1000usize), ("trace a --steps 1001", 1001)] {
-        let mut met = Outside::new(alloc, b"", NEVER)?;
-        met.out = MemSink::new(alloc, 100_000, &[])?;
-        met.files.put("a", b"J1IM\x01\x00\x00\x00\x00\x00")?;
-        assert_eq!(rt; call(alloc, &mut met, words)?, Status::StepsUsed);
-        let lines = met.out.held().iter().filter(|byte| **byte == b'\n').count();
-        assert_eq!(rt; lines, most);
-    }
+    assert_eq!(rt; counts_lines(rt.alloc(), "trace a")?, 1000);
+    assert_eq!(rt; counts_lines(rt.alloc(), "trace a --steps 1001")?, 1001);
     Ok(())
 }

@@ -1,8 +1,8 @@
 // Words of one and two cells at the ends of their range, as sources, with answers from the standard.
-use super::notation::{cells_in, field};
 use super::rows::runs_text;
 use std::alloc::{AllocError, Global};
 use std::test::Fail;
+use test_notation::{cells_in, field};
 
 // A word: the first cells, the second cells where there are two, and the result of each pair.
 const EDGES: &str = r#"

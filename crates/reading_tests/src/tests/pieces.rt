@@ -1,9 +1,9 @@
 // Sources that come in pieces, with answers from the rules of the language, by hand.
-use super::notation::{bytes_in, field};
 use control_flow::{Reading, SourceError};
 use forth_program::Program;
 use std::alloc::{AllocError, Global};
 use std::test::Fail;
+use test_notation::{bytes_in, field};
 
 // Pieces in their order, each with `kept` or the refused token and its cause; and of the program at the end the number of definitions, of
 // source tokens and of execution tokens, the data start, and the number of bytes of the first data space, or why there is none.

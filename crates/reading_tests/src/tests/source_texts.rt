@@ -1,10 +1,9 @@
 // Source texts, as the reader of programs takes them: their definitions and tokens, or why they are refused.
-use super::limits::repeated;
-use super::notation::{bytes_in, field};
 use control_flow::{Nest, SourceCause, SourceError, read_program};
 use forth_program::{DefId, Item, Program};
 use std::alloc::{AllocError, Global};
 use std::test::Fail;
+use test_notation::{bytes_in, field, repeated};
 use word_table::Word;
 
 // A text, and what is read of it: the number of definitions and that of tokens, the refused token and the cause, or that it is not built yet.

@@ -1,8 +1,8 @@
 // Tokens as numbers, with answers from the rules of the language, by hand.
-use super::notation::{field, number};
 use forth_reader::number_of;
 use std::alloc::Global;
 use std::test::Fail;
+use test_notation::{field, number};
 
 // A token, a base, and what is read.
 const NUMBERS: &str = r#"

@@ -1,10 +1,10 @@
 // Code on the machine, with answers from its own tables.
-use super::notation::{bytes_in, cells_in, field, number};
 use j1_simulator::{DriveError, End, Event, Finish, Machine, drive};
 use j1_table::Image;
 use outside_io::{MemSink, MemSource};
 use std::alloc::{AllocError, Global};
 use std::test::Fail;
+use test_notation::{bytes_in, cells_in, field, number};
 
 /// For how many instructions code is driven, its input, its finish, and the numbers of the questions and of the writes that fail.
 #[derive(Clone, Copy)]

@@ -1,6 +1,7 @@
 // Arrays of two cores, step by step and under several schedules.
-use crate::compiling::compiled_text;
+use control_flow::{programs_are_sources, read_program};
 use core_array::{Array, ArrayError, CoreEvent, Link};
+use forth_library::{linked_image, sources_are_built};
 use j1_simulator::End;
 use j1_table::Image;
 use std::alloc::Global;
@@ -31,9 +32,11 @@ impl Model for Pair {
 }
 
 fn compiled(alloc: Global, source: &str) -> Result<Image, Fail> {
-    match compiled_text(alloc, source.as_bytes()) {
-        Ok((_, image)) => Ok(image),
-        Err(_) => Err(Fail::from("not compiled")),
+    programs_are_sources();
+    sources_are_built();
+    match read_program(alloc, source.as_bytes()) {
+        Ok(program) => Ok(linked_image(alloc, &program)?),
+        Err(_) => Err(Fail::from("not read")),
     }
 }
 
@@ -98,6 +101,11 @@ impl Pair {
     }
 }
 
+// Two cores, of which the first sends to the second.
+fn linked_pair(alloc: Global, one: Image, other: Image) -> Result<Pair, Fail> {
+    Pair::new(alloc, one, other, &[Link { from: 0, to: 1 }])
+}
+
 // Whether cells are 0, 1, 2 and so on.
 fn counts_up(cells: &[u16]) -> bool {
     let mut next = 0u16;
@@ -110,28 +118,78 @@ fn counts_up(cells: &[u16]) -> bool {
     true
 }
 
-#[test]
-fn sums_under_each_schedule(rt: HostRuntime) -> Result<(), Fail> {
-    let alloc = rt.alloc();
-    for (first, second, steps, rounds) in [
-        (0u8, 1u8, 1000usize, 60u32),
-        (1, 0, 640, 90),
-        (0, 1, 7, 8_000),
-    ] {
-        let (counts, sums) = (compiled(alloc, COUNTS)?, compiled(alloc, SUMS)?);
-        let mut pair = Pair::new(alloc, counts, sums, &[Link { from: 0, to: 1 }])?;
-        for _ in 0..rounds {
-            pair.run(alloc, first, steps)?;
-            pair.run(alloc, second, steps)?;
-        }
-        assert_eq!(rt; pair.end(0), Some(End::Halted(0)));
-        assert_eq!(rt; pair.end(1), Some(End::Halted(0)));
-        assert_eq!(rt; pair.printed(0), b"".as_slice());
-        assert_eq!(rt; pair.printed(1), b"40748 ".as_slice());
-        assert_eq!(rt; pair.history(0).len(), 1000);
-        assert!(rt; counts_up(pair.history(0)));
+// Turns of two cores: which is first, how many steps each makes in a turn, and how many turns they have.
+#[derive(Clone, Copy)]
+struct Turns {
+    first: u8,
+    second: u8,
+    steps: usize,
+    rounds: u32,
+}
+
+const TURNS: [Turns; 3] = [
+    Turns {
+        first: 0,
+        second: 1,
+        steps: 1000,
+        rounds: 60,
+    },
+    Turns {
+        first: 1,
+        second: 0,
+        steps: 640,
+        rounds: 90,
+    },
+    Turns {
+        first: 0,
+        second: 1,
+        steps: 7,
+        rounds: 8_000,
+    },
+];
+
+fn run_turns(alloc: Global, pair: &mut Pair, turns: &Turns) -> Result<(), Fail> {
+    for _ in 0..turns.rounds {
+        pair.run(alloc, turns.first, turns.steps)?;
+        pair.run(alloc, turns.second, turns.steps)?;
     }
     Ok(())
+}
+
+// Whether a core has halted well, and printed this.
+fn has_printed(pair: &Pair, core: u8, printed: &[u8]) -> bool {
+    pair.end(core) == Some(End::Halted(0)) && *pair.printed(core) == *printed
+}
+
+fn has_summed(pair: &Pair) -> bool {
+    let cells = pair.history(0);
+    has_printed(pair, 0, b"")
+        && has_printed(pair, 1, b"40748 ")
+        && cells.len() == 1000
+        && counts_up(cells)
+}
+
+fn sums_by(alloc: Global, turns: &Turns) -> Result<bool, Fail> {
+    let counts = compiled(alloc, COUNTS)?;
+    let mut pair = linked_pair(alloc, counts, compiled(alloc, SUMS)?)?;
+    run_turns(alloc, &mut pair, turns)?;
+    Ok(has_summed(&pair))
+}
+
+#[test]
+fn sums_under_each_schedule(rt: HostRuntime) -> Result<(), Fail> {
+    for turns in &TURNS {
+        assert!(rt; sums_by(rt.alloc(), turns)?, "{}", turns.steps);
+    }
+    Ok(())
+}
+
+// Whether a core goes once, and is blocked from then on.
+fn waits(pair: &mut Pair, core: u8) -> bool {
+    pair.step(core) == Some(CoreEvent::Went)
+        && pair.step(core) == Some(CoreEvent::Blocked)
+        && pair.step(core) == Some(CoreEvent::Blocked)
+        && pair.end(core).is_none()
 }
 
 // Two cores of which each takes before it sends.
@@ -142,48 +200,48 @@ fn blocks_on_empty_mailboxes(rt: HostRuntime) -> Result<(), Fail> {
     let one = image_of_cells(alloc, &[0xC022, 0x6C00])?;
     let other = image_of_cells(alloc, &[0xC020, 0x6C00])?;
     let mut pair = Pair::new(alloc, one, other, &links)?;
-    for core in [0u8, 1] {
-        assert_eq!(rt; pair.step(core), Some(CoreEvent::Went));
-        assert_eq!(rt; pair.step(core), Some(CoreEvent::Blocked));
-        assert_eq!(rt; pair.step(core), Some(CoreEvent::Blocked));
-        assert_eq!(rt; pair.end(core), None);
-    }
+    let both_wait = waits(&mut pair, 0) && waits(&mut pair, 1);
+    assert!(rt; both_wait);
     Ok(())
 }
 
-// A sender is blocked at 64 cells, and goes on when one is taken.
+// Whether a sender is blocked at 64 cells, and goes on when one is taken.
+fn fills(alloc: Global, pair: &mut Pair) -> Result<bool, Fail> {
+    pair.run(alloc, 0, 10_000)?;
+    let is_full = pair.history(0).len() == 64 && pair.step(0) == Some(CoreEvent::Blocked);
+    pair.run(alloc, 1, 2)?;
+    pair.run(alloc, 0, 10_000)?;
+    Ok(is_full && pair.history(0).len() == 65)
+}
+
 #[test]
 fn blocks_on_full_mailboxes(rt: HostRuntime) -> Result<(), Fail> {
     let alloc = rt.alloc();
     let taker = image_of_cells(alloc, &[0xC020, 0x6C00])?;
-    let counts = compiled(alloc, COUNTS)?;
-    let mut pair = Pair::new(alloc, counts, taker, &[Link { from: 0, to: 1 }])?;
-    pair.run(alloc, 0, 10_000)?;
-    assert_eq!(rt; pair.history(0).len(), 64);
-    assert_eq!(rt; pair.step(0), Some(CoreEvent::Blocked));
-    pair.run(alloc, 1, 2)?;
-    pair.run(alloc, 0, 10_000)?;
-    assert_eq!(rt; pair.history(0).len(), 65);
+    let mut pair = linked_pair(alloc, compiled(alloc, COUNTS)?, taker)?;
+    assert!(rt; fills(alloc, &mut pair)?);
     Ok(())
+}
+
+// Whether an array of two cores is refused for the second of three links.
+fn is_refused(alloc: Global, images: &[Image; 2], bad: Link) -> bool {
+    let good = Link { from: 1, to: 0 };
+    match Array::new(alloc, images, &[good, bad, bad]) {
+        Ok(_) => false,
+        Err(error) => error == ArrayError::BadLink(1),
+    }
 }
 
 #[test]
 fn refuses_links(rt: HostRuntime) -> Result<(), Fail> {
     let alloc = rt.alloc();
-    let images = [
-        image_of_cells(alloc, &[0x6000])?,
-        image_of_cells(alloc, &[0x6000])?,
-    ];
-    let good = Link { from: 1, to: 0 };
-    for bad in [
-        Link { from: 0, to: 0 },
-        Link { from: 2, to: 0 },
-        Link { from: 0, to: 16 },
-    ] {
-        match Array::new(alloc, &images, &[good, bad, bad]) {
-            Ok(_) => assert!(rt; false, "not refused"),
-            Err(error) => assert_eq!(rt; error, ArrayError::BadLink(1)),
-        }
+    let one = image_of_cells(alloc, &[0x6000])?;
+    let images = [one, image_of_cells(alloc, &[0x6000])?];
+    for (from, to) in [(0, 0), (2, 0), (0, 16)] {
+        assert!(rt;
+            is_refused(alloc, &images, Link { from, to }),
+            "{from} {to}"
+        );
     }
     Ok(())
 }

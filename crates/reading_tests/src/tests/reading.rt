@@ -1,8 +1,8 @@
 // Worked texts for the reader, with answers from the rules of the language, by hand.
-use super::notation::{bytes_in, field};
 use forth_reader::{ReadRefusal, Reader, Token};
 use std::alloc::{AllocError, Global};
 use std::test::Fail;
+use test_notation::{bytes_in, field};
 
 // A text, and the calls on it in their order: each with the text, the place and the number of its token, a string in quotes, the number of
 // all tokens at the end, or the number of the refused token and the cause.

@@ -1,7 +1,7 @@
 // The table of words, written down by hand from its rules, against the crate's.
-use super::notation::{cells_in, field};
 use std::alloc::{AllocError, Global};
 use std::test::Fail;
+use test_notation::{cells_in, field};
 use word_table::{Class, Vocabulary, Word, WordEntry, entry, plain_cells, word_in, word_of};
 
 // The lines of `docs/WORDS.md`: name, class, stack, need, exit, peak, back, price, weight, cells in hexadecimal, meaning.

@@ -1,11 +1,8 @@
 // Folders: that of the system, in the empty folder that a test runs in, and one in memory.
-use super::limits::append_times;
-use super::notation::{bytes_in, field};
-use super::rows::{NEVER, Outside, has_files, words_in};
-use crate::{status_number, workbench};
 use outside_io::{FileFault, Folder, MemFolder, PutFault, StdFolder};
 use std::alloc::{AllocError, Global};
 use std::test::Fail;
+use test_notation::{bytes_in, field};
 
 // A read, the name, the most bytes, and what it gives; or a write, the name, the bytes, and nothing. A fault is told by its name. `.` is the
 // one name that each folder has for itself.
@@ -23,6 +20,7 @@ write | a.tmp     | one           |
 read  | a.tmp     | 100           | one
 write | b.tmp     |               |
 read  | b.tmp     | 100           |
+read  | nnnnnnnnnnnnnnnnnnnnnnnnnnnnnnnnnnnnnnnnnnnnnnnnnnnnnnnnnnnnnnnnnnnnnnnnnnnnnnnnnnnnnnnnnnnnnnnnnnnnnnnnnnnnnnnnnnnnnnnnnnnnnnnnnnnnnnnnnnnnnnnnnnnnnnnnnnnnnnnnnnnnnnnnnnnnnnnnnnnnnnnnnnnnnnnnnnnnnnnnnnnnnnnnnnnnnnnnnnnnnnnnnnnnnnnnnnnnnnnnnnnnnnnnnnnnnnn | 10 | Absent
 "#;
 
 // The fourth call fails.
@@ -31,6 +29,10 @@ write | b | two   |
 write | a | three |
 read  | a | 4     | thre
 write | c | four  | Failed
+read  | a | 100   | three
+read  | b | 100   | two
+read  | c | 100   | Absent
+read  | d | 100   | Absent
 "#;
 
 fn fault_told(alloc: Global, fault: FileFault) -> Result<Vec<u8>, AllocError> {
@@ -98,13 +100,10 @@ fn keeps_files(rt: HostRuntime) -> Result<(), Fail> {
     let alloc = rt.alloc();
     let mut files = MemFolder::new(alloc, &[4])?;
     files.put("a", b"one")?;
-    do_lines(alloc, &mut files, MEMORY)?;
-    let has_all = has_files(alloc, &files, "a = three & b = two & d")?;
-    assert!(rt; has_all);
-    Ok(())
+    do_lines(alloc, &mut files, MEMORY)
 }
 
-// A number of bytes, none of which is the one before it.
+// The bytes of a long file, none of which is the one before it.
 fn many_bytes(alloc: Global, count: usize) -> Result<Vec<u8>, AllocError> {
     let mut bytes = Vec::with_capacity(alloc, count)?;
     for i in 0..count {
@@ -121,43 +120,19 @@ fn reads_front<F: Folder>(alloc: Global, files: &mut F, bytes: &[u8], most: usiz
     }
 }
 
+// Whether a folder keeps these bytes, and reads from them as many as it may.
+fn reads_fronts<F: Folder>(alloc: Global, files: &mut F, bytes: &[u8]) -> bool {
+    let mut are_fronts = files.write(alloc, "long.tmp", bytes).is_ok();
+    for most in [0, 1, 4096, 39_999, 40_000, 40_001, 65_537] {
+        are_fronts &= reads_front(alloc, files, bytes, most);
+    }
+    are_fronts
+}
+
 #[test]
 fn reads_up_to_a_limit(rt: HostRuntime) -> Result<(), Fail> {
-    let alloc = rt.alloc();
-    let bytes = many_bytes(alloc, 40_000)?;
-    let mut files = StdFolder::new(&rt);
-    let wrote = files.write(alloc, "long.tmp", bytes.as_slice()).is_ok();
-    assert!(rt; wrote);
-    for most in [0, 1, 4096, 39_999, 40_000, 40_001, 65_537] {
-        let is_front = reads_front(alloc, &mut files, bytes.as_slice(), most);
-        assert!(rt; is_front, "{most}");
-    }
-    Ok(())
-}
-
-// The exit status of a run of a file whose name has so many bytes, in the folder of the system.
-fn run_name(alloc: Global, rt: &HostRuntime, count: u32) -> Result<u8, AllocError> {
-    let mut line = String::from_str(alloc, "run ")?;
-    append_times(&mut line, "n", count)?;
-    let words = words_in(alloc, line.as_str())?;
-    let mut met = Outside::new(alloc, b"", NEVER)?;
-    let status = workbench(
-        alloc,
-        words.as_slice(),
-        &mut StdFolder::new(rt),
-        &mut met.console,
-        &mut met.out,
-        &mut met.notes,
-    );
-    Ok(status_number(&status))
-}
-
-// A name of at most 255 bytes is missing, and a longer one is no word.
-#[test]
-fn takes_names_of_255_bytes(rt: HostRuntime) -> Result<(), Fail> {
-    for (count, wanted) in [(1u32, 2u8), (255, 2), (256, 1)] {
-        let number = run_name(rt.alloc(), &rt, count)?;
-        assert_eq!(rt; number, wanted, "{count}");
-    }
+    let bytes = many_bytes(rt.alloc(), 40_000)?;
+    let are_fronts = reads_fronts(rt.alloc(), &mut StdFolder::new(&rt), bytes.as_slice());
+    assert!(rt; are_fronts);
     Ok(())
 }

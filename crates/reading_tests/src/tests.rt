@@ -1,0 +1,7 @@
+// Worked calls of the crates below, with answers from outside.
+mod dictionaries;
+mod numbers;
+mod pieces;
+mod reading;
+mod source_texts;
+mod words;
