@@ -32,6 +32,9 @@ impl Model for Pair {
 }
 
 fn compiled(alloc: Global, source: &str) -> Result<Image, Fail> {
+    if source.len() > 1000 {
+        return Err(Fail::from("too long"));
+    }
     programs_are_sources();
     sources_are_built();
     match read_program(alloc, source.as_bytes()) {
