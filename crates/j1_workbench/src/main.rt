@@ -38,7 +38,7 @@ use std::alloc::AllocError;
 use std::env;
 use std::io::ErrorKind;
 use std::process::ExitCode;
-pub use workbench::workbench;
+pub use workbench::{answer_without_words, workbench};
 
 // The words after the program's name. Words that are no text have the form of no command, and neither has an empty list.
 fn words_after_name(rt: &HostRuntime) -> Result<Vec<String>, AllocError> {
@@ -53,14 +53,14 @@ fn words_after_name(rt: &HostRuntime) -> Result<Vec<String>, AllocError> {
 
 // The call on the streams and the folder of the system.
 fn call(rt: HostRuntime) -> Status {
+    let mut notes = StdSink::new(rt.stderr());
     let words = match words_after_name(&rt) {
         Ok(words) => words,
-        Err(AllocError) => return Status::OutOfMemory,
+        Err(AllocError) => return answer_without_words(&mut notes),
     };
     let alloc = rt.alloc();
     let mut console = StdSource::new(rt.stdin());
     let mut out = StdSink::new(rt.stdout());
-    let mut notes = StdSink::new(rt.stderr());
     let mut files = StdFolder::new(rt);
     workbench(
         alloc,

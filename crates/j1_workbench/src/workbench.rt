@@ -1,7 +1,8 @@
 // The top call.
-ghost use Rattle.std.specs.Prelude.{map, string_bytes};
+ghost use Rattle.std.specs.Prelude.{[], map, string_bytes};
 ghost use Rattle.j1_workbench.specs.Surroundings.{folder, stream, surroundings};
-ghost use Rattle.j1_workbench.specs.Answers.{Answers};
+ghost use Rattle.j1_workbench.specs.Answers.{Answers, IsNoted};
+ghost use Rattle.j1_workbench.specs.Notes.{note_of};
 ghost use Rattle.j1_workbench.specs.Completeness.{AnswersAreComplete};
 
 use crate::answering::answer;
@@ -37,6 +38,17 @@ pub fn workbench<F: Folder, C: Source, O: Sink, N: Sink>(
     let answer = answer(alloc, words, files, console, out);
     match write_note(notes, words, answer.status, &answer.name) {
         Ok(()) => answer.status,
+        Err(Failed) => Status::WriteFault,
+    }
+}
+
+/// What is answered where there is no memory for the words of a command line: `OutOfMemory`, with its line in `notes`.
+pub fn answer_without_words<N: Sink>(notes: &mut N) -> Status
+    ensures noted { IsNoted (note_of [] Status.OutOfMemory []) (stream (N.held notes.old) (N.calls notes.old) (N.faults notes.old))
+        (stream (N.held notes.new) (N.calls notes.new) (N.faults notes.new)) Status.OutOfMemory result }
+{
+    match write_note(notes, &[], Status::OutOfMemory, &None) {
+        Ok(()) => Status::OutOfMemory,
         Err(Failed) => Status::WriteFault,
     }
 }

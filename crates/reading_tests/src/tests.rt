@@ -1,5 +1,7 @@
 // Worked calls of the crates below, with answers from outside.
+mod certificates;
 mod dictionaries;
+mod libraries;
 mod numbers;
 mod pieces;
 mod reading;

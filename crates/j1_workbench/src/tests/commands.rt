@@ -78,6 +78,21 @@ files 1     | bound source.fs   | : MAIN ;                                     |
 files 2     | build source.fs b | : MAIN ;                                     | x  |    | 11 write fault
 writes 1    | bound source.fs   | : MAIN ;                                     | x  |    | 11 write fault
 writes 2    | bound source.fs   | : MAIN 10 0 DO LOOP ;                        | x  | 141 | 11 write fault
+files 1     | eval source.fs    | : MAIN ;                                     | x   |    | 10 read fault
+writes 1    | eval source.fs    | : MAIN ;
+files 1     | build source.fs b | : MAIN 72 EMIT ;                             | x   |    | 10 read fault  |  | b
+files 2     | build source.fs b | : MAIN 72 EMIT ;                             | x   |    | 11 write fault |  | source.fs = :_MAIN_72_EMIT_;
+files 1     | exec a            |                                              | x   |    | 10 read fault  | a = J1IM^01^00^05^00^00^00^02^C0^00l^00^C0#`^03a
+questions 2 | exec a            |                                              | xy  | x  | 10 read fault  | a = J1IM^01^00^05^00^00^00^02^C0^00l^00^C0#`^03a
+writes 1    | exec a            |                                              | xy  |    | 11 write fault | a = J1IM^01^00^05^00^00^00^02^C0^00l^00^C0#`^03a
+files 1     | asm a b           |                                              | x   |    | 10 read fault  | a = J1_1~CODE~DATA~END~ | b
+files 2     | asm a b           |                                              | x   |    | 11 write fault | a = J1_1~CODE~DATA~END~ | a = J1_1~CODE~DATA~END~
+questions 5 | forth             |                                              | 1_.~2_.~ | 1__ok~ | 10 read fault
+writes 1    | forth             |                                              | 1_.~ |    | 11 write fault
+questions 3 | run source.fs     | : MAIN BEGIN KEY EMIT 0 UNTIL ;              | abc | ab | 10 read fault
+files 1     | list a            |                                              |     |    | 10 read fault  | a = x
+files 1     | net a             |                                              |     |    | 10 read fault  | a = x
+writes 1    | make 0 2          |                                              |     |    | 11 write fault
 questions 2 | run source.fs     | : MAIN KEY EMIT KEY EMIT KEY EMIT KEY EMIT ; |    |    | 7 input ended
 questions 3 | run source.fs     | : MAIN KEY EMIT KEY EMIT KEY EMIT KEY EMIT ; | x  | x  | 7 input ended
 questions 4 | run source.fs     | : MAIN KEY EMIT KEY EMIT KEY EMIT KEY EMIT ; | xy | xy | 7 input ended
